@@ -5,9 +5,10 @@ usage: bench/ratios.py PROGRAM [--rounds N] [--only WORD] [--instructions] [--wr
 
 PROGRAM is the built ttrun. What both print is compared byte by byte first. A ratio is the median over the rounds of ttrun's processor
 time by its twin's, and its spread is what lies between the quarters of the rounds. Next to it are the ratio by the clock and, with
---instructions, that of the instructions that valgrind counts in one round. `bench/ratios.txt` has the ratio of processor time and
-the spread of each row in an earlier run. A ratio that is above it by more than the spread fails, and then the status is 1. With
---write the rows are written into the file, and none fails.
+--instructions, that of the instructions that valgrind counts in one round. `bench/ratios.txt` has the ratio of processor time, its
+spread and the ratio of instructions of each row in an earlier run. A row fails, and then the status is 1, if its ratio of processor
+time is above the earlier one by more than the spread, or its ratio of instructions by more than a hundredth. With --write the rows
+are written into the file, and none fails.
 """
 import argparse
 import os
@@ -68,10 +69,10 @@ def built(source: str, work: str) -> str:
 
 
 def generated(row: Row, work: str) -> str:
-    folder, word = row.made_by
-    path = os.path.join(work, f"{folder}_{word}")
+    kind, word = row.made_by
+    path = os.path.join(work, f"{kind}_{word}")
     with open(path, "wb") as file:
-        subprocess.run([sys.executable, os.path.join(HERE, folder, "generate.py"), word], stdout=file, check=True)
+        subprocess.run([sys.executable, os.path.join(HERE, "generate.py"), kind, word], stdout=file, check=True)
     return path
 
 
@@ -102,22 +103,35 @@ def spread_of(ratios: List[float]) -> float:
     return third - first
 
 
-def landed() -> Dict[str, Tuple[float, float]]:
+class Found(NamedTuple):
+    """The ratio of processor time to the twin's, its spread, and the ratio of instructions, 0 if they were not counted."""
+
+    ratio: float
+    spread: float
+    counted: float
+
+    def is_slower(self, before: "Found") -> bool:
+        """Of the spreads the larger counts."""
+        return self.ratio > before.ratio + max(self.spread, before.spread) or self.counted > before.counted * 1.01 > 0
+
+
+def landed() -> Dict[str, Found]:
     with open(LANDED, encoding="utf-8") as file:
         lines = [it.split("\t") for it in file.read().splitlines() if not it.startswith("#")]
-    return {name: (float(ratio), float(spread)) for name, ratio, spread in lines}
+    return {name: Found(*map(float, figures)) for name, *figures in lines}
 
 
-def write_landed(found: Dict[str, Tuple[float, float]]) -> None:
+def write_landed(found: Dict[str, Found]) -> None:
     with open(LANDED, "w", encoding="utf-8") as file:
-        file.write("# The ratio of processor time to the twin's and its spread in an earlier run, by bench/ratios.py --write.\n")
-        file.writelines(f"{name}\t{ratio:.3f}\t{spread:.3f}\n" for name, (ratio, spread) in found.items())
+        file.write("# To the twin's: processor time, its spread, instructions. By bench/ratios.py --instructions --write.\n")
+        file.writelines("\t".join([name, *(f"{it:.3f}" for it in figures)]) + "\n" for name, figures in found.items())
 
 
-def cells(sides: Sides, ratio: float, spread: float, counted: str) -> List[str]:
+def cells(sides: Sides, found: Found) -> List[str]:
     medians = [f"{statistics.median(it.milliseconds for it in side):.2f}" for side in sides]
     peaks = [f"{max(it.mebibytes for it in side):.1f}" for side in sides]
-    return [*medians, f"{ratio:.2f}", f"{spread:.2f}", f"{sides.by_clock():.2f}", counted, *peaks]
+    counted = f"{found.counted:.2f}" if found.counted else ""
+    return [*medians, f"{found.ratio:.2f}", f"{found.spread:.2f}", f"{sides.by_clock():.2f}", counted, *peaks]
 
 
 def read_words() -> argparse.Namespace:
@@ -130,19 +144,10 @@ def read_words() -> argparse.Namespace:
     return parser.parse_args()
 
 
-def judged(name: str, ratio: float, spread: float, before: Dict[str, Tuple[float, float]]) -> Tuple[str, bool]:
-    """The last cell of a row, and whether the row fails."""
-    if name not in before:
-        return "", False
-    # It is above that of the earlier run by more than the spread, which is the larger of the two.
-    slower = ratio > before[name][0] + max(spread, before[name][1])
-    return f"{before[name][0]:.2f}{', SLOWER' if slower else ''}", slower
-
-
 def main() -> int:
     asked = read_words()
     before = landed() if os.path.exists(LANDED) else {}
-    found: Dict[str, Tuple[float, float]] = {}
+    found: Dict[str, Found] = {}
     failed = 0
     print("| input | ttrun, ms | twin, ms | ratio | spread | by the clock | instructions | ttrun, MiB | twin, MiB | earlier |")
     print("|---|---|---|---|---|---|---|---|---|---|")
@@ -156,12 +161,12 @@ def main() -> int:
                 print(f"ratios: {name}: the twin prints something else", file=sys.stderr)
                 return 1
             sides = timed(measure, asked.rounds, ours, theirs, path)
-            counted = f"{instructions(ours, path) / instructions(theirs, path):.2f}" if asked.instructions else ""
-            ratio, spread = statistics.median(sides.ratios()), spread_of(sides.ratios())
-            found[name] = (ratio, spread)
-            told, slower = judged(name, ratio, spread, before)
+            counted = instructions(ours, path) / instructions(theirs, path) if asked.instructions else 0.0
+            found[name] = Found(statistics.median(sides.ratios()), spread_of(sides.ratios()), counted)
+            slower = name in before and found[name].is_slower(before[name])
             failed += slower and not asked.write
-            print(f"| {name} | {' | '.join(cells(sides, ratio, spread, counted))} | {told} |", flush=True)
+            earlier = f"{before[name].ratio:.2f}, {before[name].counted:.2f}" if name in before else ""
+            print(f"| {name} | {' | '.join(cells(sides, found[name]))} | {earlier}{', SLOWER' if slower else ''} |", flush=True)
     if asked.write:
         write_landed({**before, **found})
     return 1 if failed else 0

@@ -6,13 +6,14 @@ set -u
 here=$(cd "$(dirname "${BASH_SOURCE[0]}")" && pwd)
 top=$here/..
 parts=("$@")
-[ "$#" != 0 ] || parts=(ratios exec verdicts board traps explore serve)
+[ "$#" != 0 ] || parts=(ratios exec verdicts board explore serve)
 
 # The command that makes the figures of a part, in the array `command`.
 find_command() {
     local program=$top/crates/ttrun/out/ttrun
     if [ "$1" = ratios ]; then
         command=(python3 "$here/ratios.py" "$program")
+        ! command -v valgrind > /dev/null || command+=(--instructions)
     elif [ -e "$here/$1/run.sh" ]; then
         command=("$here/$1/run.sh")
     elif [ -e "$here/$1/measure.py" ]; then

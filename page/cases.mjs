@@ -1,5 +1,6 @@
 // The cases: what the table of test cases says of each block of a text, and where two opened cases part.
 import { Fault, Lines, MOST_BYTES, VERDICTS, readBlock } from "./reading.mjs";
+import { callOf } from "./shapes.mjs";
 import { Table } from "./table.mjs";
 // A block without its entries, and where to read it again. `why` is the first entry after which the overall verdict is the
 // final one. It has two remarks of its run: `before` is the last since the run's entry before it, `behind` the first until
@@ -8,14 +9,14 @@ function summarise(lines) {
   const from = lines.at, table = new Table(), remarks = new Map();
   let entries = 0, index = -1, why = null;
   const block = readBlock(lines, entry => {
-    const { line, text, run, verb, said } = entry, worst = table.overall;
+    const { run, verb, said } = entry, worst = table.overall;
     index += 1;
     if (why?.run === run && verb !== "!") why.behind ??= said;
     if (verb === "#") remarks.set(run, said);
     if (said) return;
     table.take(entry);
     const on = table.runs.get(run) ?? null, before = remarks.get(run) ?? "";
-    if (table.overall > worst) why = { index, line, text, run, on, before, behind: null };
+    if (table.overall > worst) why = { ...entry, index, on, before, behind: null };
     remarks.delete(run);
     entries += 1;
   });
@@ -50,12 +51,14 @@ function endOf({ list, lanes }, entry) {
 // Waits that were parked are left out.
 export function partings(one, other) {
   const games = [one, other], all = games.map(({ list, places }) => places.map(place => list[place]));
-  const spelled = entry => entry ? `${entry.operation.replace("wake", "wait")} -> ${entry.reply}` : "not made";
+  const plain = entry => entry ? `${entry.operation.replace("wake", "wait")} -> ${entry.reply}` : "";
   return [...new Set(all.flat().map(({ run }) => run))].sort((left, right) => left - right).flatMap(run => {
     const calls = all.map(entries => entries.filter(entry => entry.run === run && entry.reply !== "parked"));
-    const at = [...calls[0], null].findIndex((entry, nth) => spelled(entry) !== spelled(calls[1][nth]));
-    const ends = calls.map((own, side) => [["left", "right"][side], endOf(games[side], own[at])]).filter(([, text]) => text);
-    return at < 0 ? [] : `run ${one.which(run)}: call ${at + 1}: ${calls.map(own => spelled(own[at])).join(" | ")}` +
-      ends.map(([side, text]) => `; ${side}: before it ${text}`).join("");
+    const at = [...calls[0], null].findIndex((entry, nth) => plain(entry) !== plain(calls[1][nth]));
+    const sides = games.map((game, side) => [game, calls[side][at], ["left", "right"][side]]);
+    const told = sides.map(([game, entry]) => entry ? `${callOf(game, entry)} -> ${entry.reply}` : "not made").join(" | ");
+    const ends = sides.map(([game, entry, side]) => [side, endOf(game, entry)]).filter(([, text]) => text);
+    const before = ends.map(([side, text]) => `; ${side}: before it ${text}`).join("");
+    return at < 0 ? [] : `run ${one.which(run)}: call ${at + 1}: ${told}${before}`;
   });
 }

@@ -2,7 +2,7 @@
 import { VERDICTS } from "./reading.mjs";
 import { countWhile, nameOf } from "./lanes.mjs";
 import { countAsked, filterOf, isDeciding, rowsOf } from "./rows.mjs";
-import { shapeOfRow } from "./shapes.mjs";
+import { meaningOf, shapeOfRow } from "./shapes.mjs";
 import { cut, escaped, lookOf, svg, twoLines, widthOf } from "./drawing.mjs";
 export const ROW = 28, HEAD = 56;
 const GUTTER = 66, FOOT = 90, LOW = 20;  // the least room for the numbers of lines; how far below the top of a row its arrow is
@@ -106,17 +106,18 @@ export class Chart {
   }
   // A row: its picture, its lines in the text, and its words at the edge if its life line is not visible.
   row(row, place, y) {
-    const { list, who } = this.game, { gutter } = this, { left, right } = this.window, entry = list[row.first];
+    const { list, names, who } = this.game, { gutter } = this, { left, right } = this.window, entry = list[row.first];
     const x = this.xs.get(entry.on) ?? left + gutter, number = this.numberOf(row);
     const tint = isDeciding(this.game, row) ? "on-why" : place === this.chosen ? "on-selected" : "";
-    const title = row.seen.map(index => list[index].text).join("\n"), shape = shapeOfRow(this.game, row);
+    const lines = row.seen.flatMap(index => [list[index].text, meaningOf(names, list[index])]).filter(Boolean).join("\n");
+    const shape = shapeOfRow(this.game, row);
     const label = shape.form === "create" ? `${shape.label} ${who(shape.to)}` : shape.label;
     const say = cut(`${who(entry.on)}: ${label}`, right - left - gutter - 24);
     const edge = x > right ? svg.text(right - 8, y + 9, `${say} \u203a`, "halo dim small", "end")
       : x < left + gutter - 8 ? svg.text(left + gutter, y + 9, `\u2039 ${say}`, "halo dim small", "start") : "";
     const drawn = edge && /note|box/.test(shape.form) ? "" : this.shape(shape, x, y, !edge);
     return `<g data-row="${place}" class="${tint}" role="option" aria-selected="${place === this.chosen}">` +
-      `<title>line ${number}: ${escaped(title)}</title>${svg.rect(0, y, this.width, ROW, "hit")}${drawn}` +
+      `<title>line ${number}: ${escaped(lines)}</title>${svg.rect(0, y, this.width, ROW, "hit")}${drawn}` +
       (left > 0 ? svg.rect(left, y, gutter - 8, ROW, "cover") : "") + svg.rect(left, y, 4, ROW, "edge") +
       `${edge}${svg.text(left + gutter - 14, y + 14, number, "gutter", "end")}</g>`;
   }

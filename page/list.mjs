@@ -4,18 +4,19 @@ import { $, $$, app, chip, counted, goTo, hashOf, on, when } from "./app.mjs";
 import { nameOf, named, quoted } from "./lanes.mjs";
 import { escaped, lookOf } from "./drawing.mjs";
 import { STATUSES, orderOf, tableRows, tallies } from "./nights.mjs";
+import { meaningOf } from "./shapes.mjs";
 import { faults } from "./sources.mjs";
 const PORTION = 500, MOST_REASONS = 3;  // rows that are made at a time, as they come into sight; reasons in one of several files
 const FEW = 3;  // files that have their columns before that of the reasons
 // Why the verdict of a case is what it is, in words.
-export function reasonOf({ told, overall, end, isOver, why }) {
+export function reasonOf({ told, overall, end, isOver, why, names }) {
   const made = VERDICTS[overall];
   if (told !== overall)
     return `<b class="warn">line ${end} says ${VERDICTS[told]}, the entries make ${made}: <code>ttrun check</code> judges</b>`;
   if (!isOver) return `no entry ends the test case; verdict so far ${made}`;
   if (overall < 2) return when(overall === 0, '<span class="dim">no verdict was set</span>');
-  const { run, behaviour, on, name, text, line } = why;
-  return `run ${named(run, behaviour)} on <b>${nameOf(on, name)}</b>: ${saidAround(why, `<code>${text}</code>`)}
+  const { run, behaviour, on, name, text, line } = why, title = meaningOf(names, why);
+  return `run ${named(run, behaviour)} on <b>${nameOf(on, name)}</b>: ${saidAround(why, `<code title="${title}">${text}</code>`)}
     <span class="dim">line&nbsp;${line}</span>`;
 }
 // The remarks of the run of the deciding entry, before and after some words.

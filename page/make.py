@@ -9,6 +9,7 @@ what the sources make, and status 1 if there is one.
 """
 import base64
 import hashlib
+import json
 import os
 import re
 import sys
@@ -48,9 +49,15 @@ def style(*names: str) -> str:
     return "\n" + bare("".join(map(source, names)))
 
 
+def meanings() -> str:
+    """What each dynamic error means, by its name, and as `last` that its run was started before: the words of the program."""
+    found = re.findall(r'(?:Fault::|let )(\w+) =>? "(?:: )?(.*)"', source("../crates/tc_report/src/meaning.rt"))
+    return json.dumps({re.sub(r"\B(?=[A-Z])", "-", name).lower(): words for name, words in found})
+
+
 def script(main: str) -> str:
     """All modules of a page as one script, in one scope, without the words that part them."""
-    joined = "".join(IMPORT.sub("", source(f"{name}.mjs")) for name in modules(main, []))
+    joined = "".join(IMPORT.sub("", source(f"{name}.mjs")) for name in modules(main, [])).replace("MEANINGS = {}", f"MEANINGS = {meanings()}")
     names = DEFINED.findall(joined)
     twice = sorted({name for name in names if names.count(name) > 1})
     if twice:

@@ -1,5 +1,5 @@
 // The nights: the rows of the table. Of one file each is a test case, of several each is a name, with a cell for each file.
-export const STATUSES = ["error", "unfinished", "missing", "fail", "inconc", "none", "pass"];  // the failures first
+export const STATUSES = ["error", "unfinished", "fail", "inconc", "missing", "none", "pass"];  // the failures first
 const collator = new Intl.Collator("en", { numeric: true });
 const worstOf = statuses => STATUSES.find(status => statuses.includes(status));
 // What a row opens: its last case, next to the last one before it with another verdict. If there is none, next to the one before.

@@ -54,7 +54,7 @@ function caseOnPaper({ chart: { game, options, unfolded, rows, chosen } }) {
 export function listenForPrint() {
   on(window, "beforeprint", () => {
     while ($(".cases") && app.showMore());
-    $("#paper").innerHTML = app.panes.map(caseOnPaper).join("");
+    $("#paper").innerHTML = ($(".partings")?.outerHTML ?? "") + app.panes.map(caseOnPaper).join("");
     document.body.classList.toggle("printed", app.panes.length > 0);
   });
   on(window, "afterprint", () => { $("#paper").innerHTML = ""; document.body.classList.remove("printed"); });

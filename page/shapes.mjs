@@ -1,24 +1,23 @@
 // The shapes: what a chart draws for an entry or a row, and the words next to it. There are no coordinates here.
 import { VERDICTS } from "./reading.mjs";
-import { lastAt, nameOf, quoted } from "./lanes.mjs";
+import { lastAt, named, nameOf, quoted } from "./lanes.mjs";
 import { isQuestion } from "./rows.mjs";
-const MEANINGS = { "no-component": "a component that the call names does not exist", "not-main": "only run 0 may say any or all",
-  "start-main": "the main component is never started", "already-running": "another run is running on the component",
-  "not-startable": "the component is killed", "too-many": "there are as many components as a test case may have",
-  "no-behaviour": "there is no such run to start", stuck: "no run can continue" };
-// What a dynamic error means, by docs/rules.md.
-export function meaningOf({ list, which }, { error, started, at }) {
-  const wasStarted = list.slice(0, at).some(entry => entry.started === started && entry.reply === "ok");
-  const isAgain = error === "no-behaviour" && started !== null && wasStarted;
-  return isAgain ? `run ${which(started)} was started before: a behaviour is started at most once` : MEANINGS[error];
+// What each dynamic error means: make.py puts in the words of the program.
+const MEANINGS = {};
+// What the error of an entry means, in a case with these names of behaviours; nothing if it is none.
+export const meaningOf = (names, { error, started, isAgain }) =>
+  isAgain ? `run ${named(started, names.get(started))}${MEANINGS.last}` : MEANINGS[error] ?? "";
+// A call with names next to its numbers. A wake is a wait.
+export function callOf({ who, which }, { verb, operation, target, started, args }) {
+  const ofRun = verb === "start" ? ` run ${which(started)}${args.length ? ` with ${args.map(who).join(" ")}` : ""}` : "";
+  return (typeof target === "number" ? `${verb} ${who(target)}${ofRun}` : operation).replace(/^wake/, "wait");
 }
 // An arrow between two life lines, a create, an arrow to all other components, a box on the caller's life line, or a note
 // next to it. An entry without a rule is a box with all its words.
-export function shapeOf({ lanes, who, which }, entry, index) {
-  const { verb, reply, run, on, target, made, operation, started, said } = entry, isCarriedOut = reply === "ok";
+export function shapeOf(game, entry, index) {
+  const { lanes, who, which } = game, { verb, reply, run, on, target, made, operation, started, said } = entry;
   const to = lanes.has(target) && target !== on ? target : null, isHalt = verb === "stop" || verb === "kill";
-  const spoken = verb === "!" ? `refused: ${said}` : quoted(said), ofRun = verb === "start" ? `, run ${which(started)}` : "";
-  const words = typeof target === "number" ? `${verb} ${who(target)}${ofRun}` : operation;
+  const spoken = verb === "!" ? `refused: ${said}` : quoted(said), words = callOf(game, entry), isCarriedOut = reply === "ok";
   const shape = (form, label, look = "", from = on, end = to) => ({ form, label, look, from, to: end });
   if (!lanes.has(on)) return shape("note", `run ${which(run)}: ${said ? spoken : `${operation} \u2192 ${reply}`}`, "dim");
   if (said) return verb === "!" ? shape("box", spoken, "kept v-error") : shape("note", spoken, "said");

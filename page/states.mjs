@@ -40,7 +40,8 @@ export function statesOf({ game, lanes, rows, chosen }, most = MOST) {
     <br><code>${escaped(entry.text)}</code></p><p>run ${game.which(entry.run)} on ${game.who(entry.on)}
     ${when(isDeciding(game, row), `<br><b>After this entry the verdict is ${VERDICTS[game.overall]}.</b>
     <span class="reason">${saidAround(game.why ?? {}, "")}</span>`)}
-    ${when(entry.error, `<br>Dynamic error: ${meaningOf(game, entry)}.`)}${when(isEnd, "<br>This entry ends the test case.")}</p>
+    ${when(entry.error, `<br>Dynamic error: ${meaningOf(game.names, entry)}.`)}
+    ${when(isEnd, "<br>This entry ends the test case.")}</p>
     <table><thead><tr><th>Component<th>Phase<th>Local</thead><tbody>${states.slice(0, most).map(line).join("")}</tbody></table>
     ${when(states.length > most, `<p>and ${states.length - most} more: choose a component</p>`)}`;
 }

@@ -32,8 +32,9 @@ export class Table {
     if (entry.target === "all") return [...this.slots.values()].filter(slot => slot.number !== 0);
     return this.slots.has(entry.target) ? [this.slot(entry.target)] : [];
   }
-  // Takes an entry, and returns the slots that it may have changed.
+  // Takes an entry, and returns the slots that it may have changed. `isAgain`: refused, since its run was started before.
   take(entry) {
+    entry.isAgain = entry.error === "no-behaviour" && entry.started > 0 && this.runs.has(entry.started);
     if (entry.reply === "ended") return [];
     const isCarriedOut = entry.reply === "ok", ends = this.endsCase(entry);
     const own = this.runs.has(entry.run) ? this.slot(this.runs.get(entry.run)) : null;

@@ -15,9 +15,11 @@ function caseFrame(cases, games, part) {
   const box = (key, label) =>
     `<label><input type="checkbox" data-option="${key}" ${when(app.options[key], "checked")}> ${label}</label>`;
   const option = (value, words, isChosen = false) => `<option value="${value}" ${when(isChosen, "selected")}>${words}</option>`;
-  const place = ({ line, source }, from) => `line ${line}${when(from, ` of ${escaped(source.name)}`)}`;
+  const place = ({ line, source, lineByLine }, from) =>
+    when(!lineByLine, `line ${line}${when(from, ` of ${escaped(source.name)}`)}`);
   const others = app.cases.filter(other => other.name === one.name && other !== one);
-  const choice = other => option(other.id, `${other.status}, ${place(other, other.source !== one.source)}`, other === two);
+  const chosen = other => [other.status, place(other, other.source !== one.source)].filter(Boolean).join(", ");
+  const choice = other => option(other.id, chosen(other), other === two);
   const isOdd = ({ isOver, told, overall }) => !isOver || told !== overall;
   const state = shown => chip(shown.status) + when(isOdd(shown), ` <span>${reasonOf(shown)}</span>`);
   const told = two ? `<span>alike for ${counted(part, "entry", "entries")}</span>` : state(one);
@@ -34,8 +36,8 @@ function caseFrame(cases, games, part) {
     ${when(games.some(game => game.list.length > game.places.length), box("remarks", "remarks"))}
     ${when(others.length, `<select id="other" aria-label="compare with">${option("", "compare with\u2026")}
     ${others.map(choice).join("")}</select>`)}
-    ${when(!two, `<span class="push"></span>${button("save", "SVG", "saves this chart as a picture")}
-    ${button("mermaid", "Mermaid", "shows the text of this chart for Mermaid")}`)}</div></div>
+    ${when(!two, `<span class="push">${button("save", "SVG", "saves this chart as a picture")}
+    ${button("mermaid", "Mermaid", "shows the text of this chart for Mermaid")}</span>`)}</div></div>
     ${two ? `<pre class="partings" aria-label="where the runs part">${escaped(partings(...games).join("\n"))}</pre>` : ""}
     <div class="case ${when(two, "two")}">${cases.map(pane).join("")}<aside class="state"></aside></div>`;
 }

@@ -2,13 +2,14 @@
 import argparse
 import inspect
 import os
+import shutil
 import subprocess
 import sys
 import time
 from contextlib import AbstractContextManager
 from dataclasses import dataclass
 from functools import partial
-from typing import Callable, Dict, Iterable, Iterator, List, Mapping, Optional, Sequence, Tuple, Union
+from typing import Any, Callable, Dict, Iterable, Iterator, List, Mapping, Optional, Sequence, Tuple, Union
 
 TOP = os.path.dirname(os.path.dirname(os.path.abspath(__file__)))
 PROGRAM = os.path.join(TOP, "crates", "ttrun", "out", "ttrun")
@@ -86,11 +87,12 @@ def add_tools(folder: str, *without: str) -> str:
 
 @dataclass
 class Ran:
-    """What a call gave, as texts or as bytes. A status below 0 is the signal that ended it."""
+    """What a call gave, as texts or as bytes. A status below 0 is the signal that ended it: one that was late is killed."""
 
     output: Union[str, bytes]
     errors: Union[str, bytes]
     status: int
+    is_late: bool = False
 
     def lines(self) -> List[str]:
         return (self.errors if isinstance(self.errors, str) else self.errors.decode()).splitlines()
@@ -100,6 +102,20 @@ def call(words: Sequence[str], given: Union[str, bytes] = "", **how) -> Ran:
     """Calls a program with an input, and waits for its end; it gives texts if the input is one."""
     ran = subprocess.run(words, input=given, capture_output=True, text=isinstance(given, str), timeout=SECONDS, check=False, **how)
     return Ran(ran.stdout, ran.stderr, ran.returncode)
+
+
+def checkout(*paths: str) -> List[str]:
+    """The files of the repository at these paths, all if there is none, that are there now."""
+    listed = call(["git", "ls-files", "-co", "--exclude-standard", *paths], cwd=TOP)
+    hold(listed.status == 0, listed)
+    return [it for it in listed.output.splitlines() if os.path.isfile(os.path.join(TOP, it))]
+
+
+def copy_checkout(target: str, *paths: str) -> None:
+    """Copies these files into a folder."""
+    for name in checkout(*paths):
+        os.makedirs(os.path.dirname(os.path.join(target, name)), exist_ok=True)
+        shutil.copy2(os.path.join(TOP, name), os.path.join(target, name))
 
 
 class Folder(AbstractContextManager):
@@ -186,7 +202,7 @@ def words_of(description: str, has_program: bool = True) -> argparse.ArgumentPar
     return parser
 
 
-def chosen(parser: argparse.ArgumentParser, *groups: Tuple[Tests, int]) -> Tuple[argparse.Namespace, List[Dict[str, Callable]]]:
+def chosen(parser: argparse.ArgumentParser, *groups: Tuple[Mapping[str, Any], int]) -> Tuple[argparse.Namespace, List[Dict[str, Any]]]:
     """What is given, and the tests of each group that are chosen. A group has no fewer than its number."""
     given = parser.parse_args()
     for tests, fewest in groups:

@@ -19,12 +19,16 @@ import subprocess
 import sys
 import time
 from functools import lru_cache
+from importlib.machinery import SourceFileLoader
+from importlib.util import module_from_spec, spec_from_loader
 from typing import Callable, Dict, List, Optional, Set
 
 # Between two looks at what runs, in seconds.
 PAUSE = 0.3
 # As many as rt itself gives a check at most.
 MOST_JOBS = 8
+# The only crate that is left begins again with more jobs if it has run for that many seconds: reading what is below it takes a dozen.
+WORTH_IT = 45
 # How far those give way that others do not wait for so long.
 YIELDING = 10
 MEMINFO = "/proc/meminfo"
@@ -159,11 +163,41 @@ def remove(folder: str) -> None:
         time.sleep(0.1)
 
 
+def sums_of(top: str) -> Dict[str, str]:
+    """The sums by which this machine's rt knows what is built of each crate; none if it has another way."""
+    kit = os.path.dirname(subprocess.run(["rt", "doc"], stdin=subprocess.DEVNULL, capture_output=True, text=True).stdout.strip())
+    loader = SourceFileLoader("rtlib", f"{kit}/bin/rtlib.py")
+    rtlib = module_from_spec(spec_from_loader("rtlib", loader))
+    try:
+        loader.exec_module(rtlib)
+        os.chdir(top)
+        return {it.name: it.stamp() for it in rtlib.crates_below(top)}
+    except (Exception, SystemExit):
+        return {}
+
+
+def keep_proved(top: str, names: List[str]) -> None:
+    """Has the libraries that an `rt ci` proved here count as built. It leaves them without the sums that another rt asks for, which
+    would prove all of them again. If one is older than a source, or has its sum, nothing is changed."""
+    made = [f"{top}/crates/{it}/out/rlib/{it}.rlib/format" for it in names]
+    sources = [f"{at}/{file}" for name in names for part in ("src", "specs", "proofs")
+               for at, _, files in os.walk(f"{top}/crates/{name}/{part}") for file in files]
+    sums = [f"{top}/crates/{it}/out/rlib/stamp" for it in names]
+    if not all(map(os.path.exists, made)) or any(map(os.path.exists, sums)):
+        return
+    if min(map(os.path.getmtime, made)) > max(map(os.path.getmtime, sources)):
+        found = sums_of(top)
+        for name, path in zip(names, sums):
+            if name in found:
+                with open(path, "w", encoding="utf-8") as file:
+                    file.write(found[name])
+
+
 class Running:
     """An rt that builds a crate, and what it said so far."""
 
     def __init__(self, name: str, jobs: int, words: List[str], folder: str, log: str, is_yielding: bool) -> None:
-        self.name, self.jobs, self.log, self.told = name, jobs, log, ""
+        self.name, self.jobs, self.log, self.told, self.began = name, jobs, log, "", time.monotonic()
         before = ["nice", "-n", str(YIELDING)] if is_yielding else []
         with open(log, "wb") as file:
             self.process = subprocess.Popen([*before, "rt", *words], cwd=folder, stdin=subprocess.DEVNULL, stdout=file, stderr=file)
@@ -185,6 +219,7 @@ class Running:
         except subprocess.TimeoutExpired:
             self.process.kill()
             self.process.wait()
+        self.file.close()
 
 
 class Builder:
@@ -203,8 +238,9 @@ class Builder:
         self.told, self.has_begun = "", False
         self.running: Dict[str, Running] = {}
         self.built: Set[str] = set()
-        # Those that were killed next to others: they run again by themselves.
+        # Those that were killed next to others: they run again by themselves. And those that began again with more jobs.
         self.killed: Set[str] = set()
+        self.widened: Set[str] = set()
 
     def hold_folders(self) -> List[int]:
         """Waits until no other rt works in the crates' folders, and keeps others out, as an rt does."""
@@ -313,33 +349,46 @@ class Builder:
         over = [it for it in self.running.values() if it.process.poll() is not None]
         return next((status for status in map(self.ended, over) if status), 0)
 
+    def widen(self) -> None:
+        """Has the only crate that is left begin again with more jobs, once. It keeps what it has proved."""
+        if len(self.running) != 1 or self.ready():
+            return
+        [(name, it)] = self.running.items()
+        if 2 * it.jobs <= self.lanes and time.monotonic() - it.began > WORTH_IT and name not in self.killed | self.widened:
+            self.widened.add(name)
+            self.stop(name)
+
     def build_libraries(self) -> int:
         """Builds all except the program, each as soon as what it is built on is built."""
         status = 0
         while not status and len(self.built) < len(self.uses) - 1:
+            self.widen()
             self.begin_ready()
             status = self.follow()
         return status
 
     def build_program(self) -> int:
-        """Builds the program in the checkout, and runs it once for its help."""
+        """Builds the program in the checkout, and runs it once for its help; or builds the library filskeam."""
         jobs = self.jobs_for(self.program, self.lanes)
-        self.begin(self.program, jobs, ["run", "--jobs", str(jobs), "--", "--help"], f"{self.top}/crates/{self.program}")
+        words = ["lib", "--jobs", str(jobs)] if self.program == "filskeam" else ["run", "--jobs", str(jobs), "--", "--help"]
+        self.begin(self.program, jobs, words, f"{self.top}/crates/{self.program}")
         status = 0
         while self.running:
             status = self.follow()
         return status
+
+    def stop(self, name: str) -> None:
+        """Ends one, and keeps what it made so far."""
+        self.running.pop(name).end()
+        if name != self.program:
+            self.move_back(name)
 
     def end_all(self) -> None:
         """Ends all that runs, and keeps what it made so far for the next build."""
         for it in self.running.values():
             it.process.terminate()
         while self.running:
-            name, it = self.running.popitem()
-            it.end()
-            it.file.close()
-            if name != self.program:
-                self.move_back(name)
+            self.stop(next(reversed(self.running)))
 
 
 def main(top: str, program: str) -> int:
@@ -347,9 +396,11 @@ def main(top: str, program: str) -> int:
     for number in (signal.SIGINT, signal.SIGTERM, signal.SIGHUP):
         if signal.getsignal(number) != signal.SIG_IGN:
             signal.signal(number, lambda number, _: signals.append(number))
+    top = os.path.abspath(top)
     builder = Builder(top, program)
     held = builder.hold_folders()
     try:
+        keep_proved(top, [it for it in builder.uses if it != program])
         status = builder.build_libraries()
     finally:
         builder.end_all()
@@ -365,6 +416,7 @@ def main(top: str, program: str) -> int:
 
 
 if __name__ == "__main__":
+    sys.dont_write_bytecode = True
     try:
         sys.exit(main(*sys.argv[1:]))
     except (OSError, shutil.Error) as fault:

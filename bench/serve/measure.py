@@ -1,20 +1,18 @@
 #!/usr/bin/env python3
-"""Times `ttrun serve`: calls a second of both clients, and processor time a move next to `replay`.
+"""Times `ttrun serve`: calls a second of both clients with their processor time, and that of a move next to `replay`.
 
-usage: bench/serve/measure.py PROGRAM [ROUNDS]
+usage: bench/serve/measure.py PROGRAM [ROUNDS [LIBRARY]]
 
-PROGRAM is the built ttrun, and each figure is the median of ROUNDS, 5 if none is given. With valgrind there are instructions
-a move too, which do not depend on other work.
+PROGRAM is the built ttrun, and each figure is the median of ROUNDS, 5 if none is given. With the folder that ./ttrun --library
+prints there are calls in process too.
 """
 import os
-import re
-import shutil
 import statistics
 import subprocess
 import sys
 import tempfile
 import time
-from typing import Callable, Iterator, List, Sequence, Tuple
+from typing import Callable, Iterator, List, Optional, Sequence, Tuple
 
 sys.dont_write_bytecode = True
 HERE = os.path.dirname(os.path.abspath(__file__))
@@ -23,6 +21,7 @@ CPP = os.path.join(TOP, "clients", "cpp")
 sys.path.insert(0, os.path.join(TOP, "clients", "python"))
 
 from filskeam import Run, Server
+from filskeam.library import FILE, InProcess, find_library
 
 CALLERS = (1, 8)
 CALLS = 16_000
@@ -30,15 +29,25 @@ CPP_CALLS = 64_000
 ALONE = 80_000
 MIXED = 60_000
 BEHAVIOURS, MOST = 64, 256
-CALLGRIND = ("valgrind", "--tool=callgrind", "--callgrind-out-file=/dev/null")
 KINDS = ("getverdict", "setverdict pass", "running {0}", "alive all", "done any", "setverdict inconc", "killed {0}", "getverdict")
 
 
-def median(rounds: int, figure: Callable[[], float]) -> float:
-    return statistics.median(figure() for _ in range(rounds))
+# Calls a second, and the nanoseconds of processor time of a call, which depend less on what else the machine does.
+Figure = Tuple[float, float]
 
 
-def python_rate(command: Sequence[str], callers: int) -> float:
+def median(rounds: int, figure: Callable[[], Figure]) -> str:
+    rate, each = map(statistics.median, zip(*(figure() for _ in range(rounds))))
+    return f"{rate:,.0f} ({each:,.0f} ns)"
+
+
+def timed(calls: int, act: Callable[[], object]) -> Figure:
+    began, used = time.perf_counter(), time.process_time()
+    act()
+    return calls / (time.perf_counter() - began), 1e9 * (time.process_time() - used) / calls
+
+
+def python_rate(command: Optional[Sequence[str]], callers: int) -> Figure:
     def busy(run: Run) -> None:
         for _ in range(CALLS // callers):
             run.get_verdict()
@@ -50,20 +59,19 @@ def python_rate(command: Sequence[str], callers: int) -> float:
 
     with Server(command) as server:
         server.run("warm", lambda run: None)
-        began = time.perf_counter()
-        result = server.run("t_calls", main)
-        seconds = time.perf_counter() - began
-    if result.verdict != "none" or result.evidence.count(" getverdict -> none\n") != CALLS:
-        sys.exit(f"calls are missing: {result.report()}")
-    return CALLS / seconds
+        results = []
+        figure = timed(CALLS, lambda: results.append(server.run("t_calls", main)))
+    if results[0].verdict != "none" or results[0].evidence.count(" getverdict -> none\n") != CALLS:
+        sys.exit(f"calls are missing: {results[0].report()}")
+    return figure
 
 
-def cpp_rate(built: str, command: Sequence[str], callers: int) -> float:
-    ran = subprocess.run([built, str(callers), str(CPP_CALLS), *command], stdout=subprocess.PIPE, check=True)
-    return CPP_CALLS / float(ran.stdout)
+def cpp_rate(built: str, command: Sequence[str], callers: int) -> Figure:
+    used, seconds = processor_time([built, str(callers), str(CPP_CALLS), *command], "")
+    return CPP_CALLS / float(seconds), 1e9 * used / CPP_CALLS
 
 
-def bare_rate(command: Sequence[str]) -> float:
+def bare_rate(command: Sequence[str]) -> Figure:
     """Round trips a second over two pipes, without a client and without threads: each call comes after the answer to the one before."""
     with subprocess.Popen(list(command), bufsize=0, stdin=subprocess.PIPE, stdout=subprocess.PIPE) as served:
         def ask(line: bytes) -> bytes:
@@ -71,12 +79,10 @@ def bare_rate(command: Sequence[str]) -> float:
             return os.read(served.stdout.fileno(), 4096)
 
         ask(b"case t_bare 1\n")
-        began = time.perf_counter()
-        if {ask(b"0 getverdict\n") for _ in range(CALLS)} != {b"0 getverdict -> none\n"}:
-            sys.exit("another answer")
-        seconds = time.perf_counter() - began
+        found = set()
+        figure = timed(CALLS, lambda: found.update(ask(b"0 getverdict\n") for _ in range(CALLS)))
         ask(b"0 finish\n"), ask(b"end\n")
-    return CALLS / seconds
+    return figure if found == {b"0 getverdict -> none\n"} else sys.exit("another answer")
 
 
 def mixed_moves() -> Iterator[str]:
@@ -115,11 +121,6 @@ def texts_of(moves: Sequence[str], behaviours: int) -> Tuple[str, str]:
     return f"case t_moves {behaviours}\n{lines}end\n", f"behaviours {behaviours}\n{lines}"
 
 
-def instructions(words: Sequence[str], text: str) -> float:
-    ran = subprocess.run([*CALLGRIND, *words], input=text.encode(), stdout=subprocess.DEVNULL, stderr=subprocess.PIPE, check=False)
-    return float(re.search(rb"Collected : (\d+)", ran.stderr)[1])
-
-
 def next_to_replay(program: str, rounds: int, moves: Sequence[str], behaviours: int) -> Tuple[float, float]:
     """Nanoseconds a move of `serve` and of `replay`, which give the same replies. They take turns."""
     serves, replays = texts_of(moves, behaviours)
@@ -133,34 +134,45 @@ def next_to_replay(program: str, rounds: int, moves: Sequence[str], behaviours: 
     return tuple(1e9 * statistics.median(it) / len(moves) for it in zip(*found))  # type: ignore[return-value]
 
 
-def rates(command: Sequence[str], rounds: int) -> None:
-    """Prints calls a second, and what part of bare round trips they are."""
-    bare = median(rounds, lambda: bare_rate(command))
-    print("| calls a second | one caller | eight callers | one caller to bare round trips |\n|---|---|---|---|")
-    print(f"| bare round trips from Python | {bare:,.0f} | | 1.00 |")
+def bare_library_rate() -> Figure:
+    """The library itself from Python, without a client."""
+    table = InProcess(find_library())
+    table.exchange(["case t_bare 1"])
+    play, calls = table.library.filskeam_play, range(10 * CALLS)
+    try:
+        return timed(len(calls), lambda: [table.asked(play, "0 getverdict") for _ in calls])
+    finally:
+        table.close()
+
+
+def rates(way: str, rounds: int, command: Optional[Sequence[str]], bare: Callable[[], Figure], *words: str) -> None:
+    """Prints calls a second one way; the words are for the compiler of C++."""
+    print(f"| calls a second (processor time of a call), {way} | one caller | eight callers |\n|---|---|---|")
+    print(f"| from Python without a client and without threads | {median(rounds, bare)} | |")
     one, eight = (median(rounds, lambda: python_rate(command, it)) for it in CALLERS)
-    print(f"| the Python client | {one:,.0f} | {eight:,.0f} | {one / bare:.2f} |", flush=True)
+    print(f"| the Python client | {one} | {eight} |", flush=True)
     with tempfile.TemporaryDirectory() as room:
         built = os.path.join(room, "callers")
-        flags = ["-std=c++17", "-O2", "-pthread", f"-I{CPP}"]
-        subprocess.run(["c++", *flags, os.path.join(HERE, "callers.cpp"), "-o", built], check=True)
-        one, eight = (median(rounds, lambda: cpp_rate(built, command, it)) for it in CALLERS)
-    print(f"| the C++ client | {one:,.0f} | {eight:,.0f} | {one / bare:.2f} |\n", flush=True)
+        subprocess.run(["c++", "-std=c++17", "-O2", "-pthread", f"-I{CPP}", os.path.join(HERE, "callers.cpp"), *words, "-o", built], check=True)
+        one, eight = (median(rounds, lambda: cpp_rate(built, command or (), it)) for it in CALLERS)
+        print(f"| the C++ client | {one} | {eight} |", flush=True)
+        if words:
+            found = [map(float, subprocess.run([built, "1", "0"], stdout=subprocess.PIPE, check=True).stdout.split()) for _ in range(rounds)]
+            alone, locked, four, both = map(statistics.median, zip(*found))
+            print(f"| from C++ without a client | {alone:,.0f} | |\n| the same under a lock; four threads | {locked:,.0f} | {four:,.0f} |")
+            print(f"\nan open and a close: {both:.0f} ns")
+    print()
 
 
 def times(program: str, rounds: int) -> None:
-    print("| a move | serve, ns | replay, ns | ratio | serve, instructions | replay, instructions | ratio |\n|---|---|---|---|---|---|---|")
+    print("| a move | serve, ns | replay, ns | ratio |\n|---|---|---|---|")
     lone, mixed, sleeping = [*["0 getverdict"] * ALONE, "0 finish"], list(mixed_moves()), list(sleeping_moves())
     for name, moves, behaviours in ((f"{ALONE:,} getverdict of one behaviour", lone, 1),
                                     (f"{MIXED:,} mixed moves of {BEHAVIOURS} behaviours", mixed, BEHAVIOURS),
                                     (f"the same, in a test case of {MOST} behaviours, as the clients open it", mixed, MOST),
                                     (f"{MIXED:,} mixed moves of one behaviour while {MOST - 1} of {MOST} sleep", sleeping, MOST)):
         one, other = next_to_replay(program, rounds, moves, behaviours)
-        counted = "| | |"
-        if shutil.which("valgrind"):
-            serve, replay = (instructions([program, word], text) / len(moves) for word, text in zip(("serve", "replay"), texts_of(moves, behaviours)))
-            counted = f"{serve:,.0f} | {replay:,.0f} | {serve / replay:.1f} |"
-        print(f"| {name} | {one:.0f} | {other:.0f} | {one / other:.1f} | {counted}", flush=True)
+        print(f"| {name} | {one:.0f} | {other:.0f} | {one / other:.1f} |", flush=True)
 
 
 def main() -> int:
@@ -168,7 +180,11 @@ def main() -> int:
         print(__doc__, file=sys.stderr)
         return 3
     program, rounds = sys.argv[1], int((sys.argv + ["5"])[2])
-    rates([program, "serve"], rounds)
+    served = [program, "serve"]
+    rates("over a pipe", rounds, served, lambda: bare_rate(served))
+    for folder in sys.argv[3:]:
+        os.environ["FILSKEAM_LIBRARY"] = os.path.join(folder, FILE)
+        rates("in process", rounds, None, bare_library_rate, "-DIN_PROCESS", os.path.join(folder, "libfilskeam.a"))
     times(program, rounds)
     return 0
 

@@ -47,6 +47,8 @@
 #include <utility>
 #include <vector>
 
+#include "filskeam.h"
+
 extern char** environ;
 
 namespace filskeam {
@@ -297,8 +299,48 @@ private:
     bool is_held_ = false;
 };
 
-// A server that runs: lines go in, lines come out.
-class Program {
+// A server: lines go in, lines come out.
+class Link {
+public:
+    Link() = default;
+    Link(const Link&) = delete;
+    Link& operator=(const Link&) = delete;
+    virtual ~Link() = default;
+
+    // Gives it lines, unless it takes none for so long. One that has ended is noticed by who reads.
+    virtual void write(std::string_view text, std::optional<Seconds> limit = std::nullopt) = 0;
+
+    // Reads more of what it writes; false if nothing came for so long. Throws ServerEnded at its end.
+    virtual bool read(std::optional<Seconds> limit) = 0;
+
+    virtual void kill() = 0;
+
+    // Ends it; the status.
+    virtual int finish() = 0;
+
+    // The next line that was read, without its line feed, or what is too long for one. It is valid until more is read.
+    std::optional<std::string_view> line() {
+        const auto rest = std::string_view(kept_).substr(taken_);
+        const auto size = std::min(rest.find('\n'), most_of_a_line);
+        if (rest.size() <= size) return std::nullopt;
+        taken_ += size + 1;
+        return rest.substr(0, size);
+    }
+
+protected:
+    void keep(std::string_view text) {
+        kept_.erase(0, taken_);
+        taken_ = 0;
+        kept_.append(text);
+    }
+
+private:
+    std::string kept_;
+    std::size_t taken_ = 0;
+};
+
+// A server in a process of its own, over pipes.
+class Program : public Link {
 public:
     Program(const std::vector<std::string>& command, Seconds grace) : grace_(grace) {
         std::array<int, 2> in{}, out{};
@@ -317,12 +359,9 @@ public:
         }
     }
 
-    Program(const Program&) = delete;
-    Program& operator=(const Program&) = delete;
-    ~Program() { finish(); }
+    ~Program() override { finish(); }
 
-    // Gives it lines, unless it takes none for so long. One that has ended is noticed by who reads.
-    void write(std::string_view text, std::optional<Seconds> limit = std::nullopt) {
+    void write(std::string_view text, std::optional<Seconds> limit) override {
         if (limit && !is_ready(in_, POLLOUT, *limit)) return;
         while (!text.empty()) {
             auto size = send(in_, text.data(), text.size(), MSG_NOSIGNAL);
@@ -332,27 +371,15 @@ public:
         }
     }
 
-    // Reads more of what it writes; false if nothing came for so long. Throws ServerEnded at its end.
-    bool read(std::optional<Seconds> limit) {
+    bool read(std::optional<Seconds> limit) override {
         if (limit && !is_ready(out_, POLLIN, *limit)) return false;
         std::array<char, 16384> chunk;
         ssize_t size = -1;
         do size = ::read(out_, chunk.data(), chunk.size());
         while (size < 0 && errno == EINTR);
         if (size <= 0) throw ServerEnded(how_it_ended());
-        kept_.erase(0, taken_);
-        taken_ = 0;
-        kept_.append(chunk.data(), static_cast<std::size_t>(size));
+        keep({chunk.data(), static_cast<std::size_t>(size)});
         return true;
-    }
-
-    // The next line that was read, without its line feed, or what is too long for one. It is valid until more is read.
-    std::optional<std::string_view> line() {
-        const auto rest = std::string_view(kept_).substr(taken_);
-        const auto size = std::min(rest.find('\n'), most_of_a_line);
-        if (rest.size() <= size) return std::nullopt;
-        taken_ += size + 1;
-        return rest.substr(0, size);
     }
 
     // How it ended, by its own last line.
@@ -373,13 +400,13 @@ public:
         return "the server ended with " + how + (told.empty() ? "" : ": " + told);
     }
 
-    void kill() {
+    void kill() override {
         std::lock_guard<std::mutex> hold(waiting_);
         if (!is_waited_) ::kill(pid_, SIGKILL);
     }
 
     // Ends its input, and waits for its end: its status, 3 where it was a signal.
-    int finish() {
+    int finish() override {
         if (in_ >= 0) {
             shutdown(in_, SHUT_WR);
             if (!wait_for(grace_)) {
@@ -444,8 +471,107 @@ private:
     int status_ = 0;
     bool is_waited_ = false;
     std::mutex waiting_;
-    std::string kept_;
-    std::size_t taken_ = 0;
+};
+
+// The component table in this process, which answers lines as `ttrun serve` does: also the wakes are the table's.
+class Table : public Link {
+public:
+    Table() { fault_.reserve(most_of_a_line); }  // a fault needs no more memory
+    ~Table() override { filskeam_close(&place_); }
+
+    void write(std::string_view text, std::optional<Seconds>) override {
+        std::lock_guard<std::mutex> hold(mutex_);
+        try {
+            for (std::size_t size = 0; fault_.empty() && (size = text.find('\n')) != std::string_view::npos; text.remove_prefix(size + 1))
+                answer(text.substr(0, size));
+        } catch (const ServerEnded& ended) {
+            fault_ = ended.what();
+        } catch (const std::bad_alloc&) {  // perhaps behind a call that was made: no other may follow it in the evidence
+            fault_ = "the client ran out of memory";
+        }
+    }
+
+    bool read(std::optional<Seconds>) override {
+        std::lock_guard<std::mutex> hold(mutex_);
+        if (!fault_.empty() && made_.empty()) throw ServerEnded(fault_);
+        const bool is_more = !made_.empty();
+        keep(made_);
+        made_.clear();
+        return is_more;
+    }
+
+    // A call that has begun is made.
+    void kill() override {}
+
+    int finish() override { return fault_.empty() ? status_ : 3; }
+
+private:
+    static void hold_done(std::uint8_t number, std::string_view line) {
+        if (number == FILSKEAM_DONE) return;
+        throw ServerEnded(number == FILSKEAM_NO_MEMORY ? "the table ran out of memory" : "the table takes no line " + plain(line));
+    }
+
+    void answer(std::string_view line) {
+        if (line.substr(0, 5) == "case ") begin(line);
+        else if (line == "end") end();
+        else if (line.substr(0, 10) == "behaviour " || line.find(" # ") != std::string_view::npos) made_.append(line) += '\n';
+        else make(line);
+    }
+
+    void begin(std::string_view line) {
+        hold_done(filskeam_open(&place_, static_cast<std::uint16_t>(std::atoi(last_word(line).data()))), line);
+        made_.append("evidence 1 ").append(line.substr(5)) += '\n';
+    }
+
+    void end() {
+        const auto verdict = filskeam_overall(&place_), counted = filskeam_is_over(&place_) == 1 ? verdict : std::uint8_t{4};
+        hold_done(filskeam_close(&place_), "end");
+        status_ = std::max(status_, counted <= 1 ? 0 : counted <= 3 ? 1 : 2);
+        waits_.clear();
+        made_.append("end ").append(verdicts[verdict]) += '\n';
+    }
+
+    // What the table replies to a move, by `filskeam_play` or `filskeam_would`.
+    std::string_view reply(std::string_view move, decltype(filskeam_play) call) {
+        std::size_t size = 0;
+        hold_done(call(&place_, move.data(), move.size(), room_.data(), room_.size(), &size), move);
+        return {room_.data(), size};
+    }
+
+    std::string_view play(std::string_view move) {
+        const auto found = reply(move, filskeam_play);
+        made_.append(move).append(" -> ").append(found) += '\n';
+        return found;
+    }
+
+    // Makes a call, and then the wake of each run that waits and can continue, in the order of their numbers.
+    void make(std::string_view move) {
+        const auto found = play(move);
+        if (found == "parked") {
+            std::string wake(move);
+            waits_[std::atoi(wake.c_str())] = wake.replace(wake.find(' ') + 1, 4, "wake");
+        } else if (!may_halt({'e', 0, move.substr(move.find(' ') + 1), found})) {
+            return;  // nobody can continue who could not before
+        }
+        for (auto it = waits_.begin(); it != waits_.end();) {
+            if (reply(it->second, filskeam_would) == "parked") {
+                ++it;
+                continue;
+            }
+            play(it->second);
+            it = waits_.erase(it);
+        }
+    }
+
+    // One call at a time on the place, and for what follows.
+    std::mutex mutex_;
+    filskeam_case place_ = FILSKEAM_CLOSED;
+    std::array<char, FILSKEAM_REPLY> room_{};
+    // The wakes of the runs that wait.
+    std::map<int, std::string> waits_;
+    std::string made_;
+    std::string fault_;
+    int status_ = 0;
 };
 
 class Case;
@@ -614,7 +740,7 @@ inline constexpr Seconds now_and_then(0.01);
 // A test case while it runs. Each thread of it keeps it alive.
 class Case : public std::enable_shared_from_this<Case> {
 public:
-    Case(std::string name, Program& program, Seconds grace) : name_(std::move(name)), program_(&program), grace_(grace) {}
+    Case(std::string name, Link& program, Seconds grace) : name_(std::move(name)), program_(&program), grace_(grace) {}
 
     // Runs the main behaviour, and closes the test case once it is over or late.
     Result play(const std::string& behaviour, Behaviour main, std::optional<Seconds> timeout) {
@@ -859,7 +985,7 @@ private:
     }
 
     const std::string name_;
-    Program* program_;
+    Link* program_;
     const Seconds grace_;
     TimedMutex sending_;
     // For what follows, and for what the runs have asked. Its holder writes nothing: the server may wait for its reader.
@@ -961,9 +1087,21 @@ inline void Run::stop_case_from_outside(const std::string& reason, Seconds limit
     }
 }
 
-// `ttrun serve`, which judges test cases one after the other. If it has ended, the next test case starts it again.
+// What judges: `ttrun serve` in a process of its own, by its command, or the table in this process. The second needs the
+// library filskeam, which `./ttrun --library` builds.
+struct Pipe {
+    std::vector<std::string> command = {};
+};
+struct InProcess {};
+
+// What judges test cases one after the other. If it has ended, the next test case starts it again.
 class Server {
 public:
+    template <typename Way, typename = std::enable_if_t<std::is_same_v<Way, Pipe> || std::is_same_v<Way, InProcess>>>
+    explicit Server(Way way, std::string evidence = "", Seconds grace = Seconds(5)) : Server(command_of(way), std::move(evidence), grace) {
+        if constexpr (std::is_same_v<Way, InProcess>) start_ = [] { return std::make_unique<detail::Table>(); };
+    }
+
     // The program is what TTRUN or FILSKEAM_TTRUN names, or `ttrun` on the path, unless a command is given. A behaviour that
     // does not return for so long after the end of its test case is abandoned. The evidence of each test case is appended to
     // the file, if one is named.
@@ -974,6 +1112,7 @@ public:
             if (command_.empty() && named != nullptr && *named != 0) command_ = {named, "serve"};
         }
         if (command_.empty()) command_ = {"ttrun", "serve"};
+        start_ = [this] { return std::make_unique<detail::Program>(command_, grace_); };
         if (!evidence_.empty()) append(evidence_, "");  // a file that cannot be written is reported before a test case is run
     }
 
@@ -985,7 +1124,7 @@ public:
     Result run(const std::string& name, Behaviour main, std::optional<Seconds> limit = std::nullopt) {
         std::lock_guard<std::mutex> hold(judging_);
         detail::checked_name(name);
-        if (!program_) program_ = std::make_unique<detail::Program>(command_, grace_);
+        if (!program_) program_ = start_();
         auto result = std::make_shared<detail::Case>(name, *program_, grace_)->play("main", std::move(main), limit);
         // A block without its end would spoil the file: it goes into another next to it.
         if (!evidence_.empty()) append(evidence_ + (result.fault.empty() ? "" : ".cut"), result.evidence);
@@ -1005,6 +1144,9 @@ public:
     }
 
 private:
+    static std::vector<std::string> command_of(const Pipe& pipe) { return pipe.command; }
+    static std::vector<std::string> command_of(InProcess) { return {"the table in this process"}; }
+
     static void append(const std::string& path, const std::string& text) {
         std::ofstream file(path, std::ios::app);
         if (!(file << text << std::flush)) throw std::runtime_error(path + " cannot be written");
@@ -1013,7 +1155,8 @@ private:
     std::vector<std::string> command_;
     std::string evidence_;
     Seconds grace_;
-    std::unique_ptr<detail::Program> program_;
+    std::function<std::unique_ptr<detail::Link>()> start_;
+    std::unique_ptr<detail::Link> program_;
     int status_ = 0;
     std::mutex judging_;
 };

@@ -40,16 +40,16 @@ def evidence_file(config: pytest.Config) -> Optional[str]:
 
 
 def pytest_configure(config: pytest.Config) -> None:
-    """Empties the file, so that no evidence of an earlier session stays. The one that only starts workers has no file."""
+    """Empties the file, so that no evidence of an earlier session stays. With workers there are only the files of those that have some."""
     for name in SECONDS:
         seconds(config, name)
-    path = evidence_file(config)
-    if path:
+    path = config.getoption("--filskeam-evidence")
+    if path and not hasattr(config, "workerinput"):
         try:
             EvidenceFile(path)
             for it in glob.glob(f"{glob.escape(path)}.gw*"):
                 os.remove(it)
-            if config.getoption("dist", "no") != "no" and not hasattr(config, "workerinput"):
+            if config.getoption("dist", "no") != "no":
                 os.remove(path)
         except OSError as error:
             raise pytest.UsageError(f"--filskeam-evidence: {error}") from error

@@ -1,4 +1,4 @@
-"""The engine: the crate tc_page_program as a WebAssembly module, made of the bitcode that the proved build hands to clang.
+"""The engine: the crate filskeam as a WebAssembly module, made of the bitcode that the proved build hands to clang.
 
 The kit's own way to WebAssembly takes no code that allocates. So the crate is built for x86-64 as `rt lib` builds it, with a
 folder of tools whose clang also keeps the bitcode. The kit's clang and ld.lld link that for WebAssembly, with heap.c and
@@ -18,7 +18,7 @@ from typing import Callable, Dict, List, Tuple
 
 HERE = os.path.dirname(os.path.abspath(__file__))
 TOP = os.path.dirname(os.path.dirname(HERE))
-CRATE, EXPORTS = "tc_page_program", ("tc_answer", "host_alloc", "host_free")
+CRATE, EXPORTS = "filskeam", ("filskeam_answer", "host_alloc", "host_free")
 LAYOUT = "e-m:e-p:64:64-p10:8:8-p20:8:8-i64:64-i128:128-n32:64-S128"
 FEATURES = ("bulk-memory", "multivalue", "sign-ext", "nontrapping-fptoint")
 OPT_FEATURES = ("bulk-memory", "multivalue", "sign-ext", "nontrapping-float-to-int", "mutable-globals")

@@ -1,8 +1,23 @@
-// The editor: a text, the numbers of its lines, and a mark where it has a fault.
+// The editor: a text and its sort, the numbers of its lines, and its fault, as the program prints it with --explain.
 import { $, on, when } from "../app.mjs";
 import { escaped } from "../drawing.mjs";
-import { widthIn } from "./fault.mjs";
 const LINE = 19, PAD = 8;  // dots, as in play.css
+// The line, the column, the word there and the nearest one, if the answer names them. A column counts bytes. No fault is after a byte
+// above 127 of its line, so it is the number of a letter too.
+export function faultIn(errors) {
+  const one = pattern => pattern.exec(errors)?.[1] ?? null, number = pattern => one(pattern) && Number(one(pattern));
+  return { printed: errors.trimEnd(), line: number(/^(?:ttrun: )?line (\d+): /), column: number(/^ {2}column (\d+): /m),
+    word: one(/^ {2}column \d+: `(.*)`$/m), nearest: one(/^ {2}nearest: (.*)$/m) };
+}
+// How many letters are marked: those of the word, which may be cut or spelled by its bytes, otherwise one.
+export const widthIn = ({ word }) => word && !/\\x|\.\.$/.test(word) ? word.length : 1;
+// What a text is, by the first word that it says: "script", "histories" or "moves".
+export function sortOf(text) {
+  const left = /[ \t]*(?:#[^\n]*)?\n/y, word = /[ \t]*(\w*)/y;
+  while (left.test(text)) word.lastIndex = left.lastIndex;
+  const [, first] = word.exec(text);
+  return first === "history" || first === "evidence" ? "histories" : first === "behaviours" ? "moves" : "script";
+}
 let fault = null, chosen = null;
 function place() {
   const area = $("#text"), { scrollTop, scrollLeft } = area, first = Math.floor(scrollTop / LINE);

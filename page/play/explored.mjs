@@ -1,8 +1,7 @@
-// What was found: the answer of `explore --details` read line by line, and shown as a table of verdicts.
+// What was found: the answer of `explore --details` read line by line, with the lines of the script, and shown as a table of verdicts.
 import { VERDICTS } from "../reading.mjs";
 import { chip, counted, when } from "../app.mjs";
 import { escaped } from "../drawing.mjs";
-import { inScript } from "./lines.mjs";
 const FIRST = new RegExp(`^(\\w+)((?: (?:${VERDICTS.join("|")}))*) (complete|undecided after \\d+ states(?:: limit of (?:states|memory))?)$`);
 // Each test case with its verdicts, how its search ended, the lines below it, and the place of its first witness.
 export function readExplored(output) {
@@ -26,6 +25,35 @@ export function exploredRows(rows, hasWitnesses) {
   return rows.map(row => `<tr data-from="${row.from}"><td><b>${row.name}</b><td>${row.verdicts.map((verdict, nth) =>
     link([row.from + nth], chip(verdict))).join(" ")}<td><span class="${when(row.ending !== "complete", "warn")}">${row.ending}</span>
     <span class="dim">${about(row)}</span> ${sideBySide(row)}</tr>`).join("");
+}
+// The behaviours of each test case, in the order of their runs, by its name.
+export function behavioursOf(script) {
+  const cases = new Map();
+  let behaviours = null, open = null;
+  script.split("\n").forEach((text, at) => {
+    const words = text.trim(), [word, name] = words.split(/\s+/);
+    if (!word || word.startsWith("#")) return;
+    if (word === "testcase") cases.set(name, behaviours = []);
+    else if (word === "behaviour") behaviours?.push(open = { name, steps: [], end: null });
+    else if (word !== "end") open?.steps.push({ line: at + 1, words });
+    else if (open) { open.end = at + 1; open = null; }
+  });
+  return cases;
+}
+// Gives each entry, in their order, the line of its step. A wake is of the step of its wait, and the last entry of its `end`.
+export function lineByLine(behaviours) {
+  const made = new Map();
+  return ({ run, verb, line }) => {
+    const nth = (made.get(run) ?? 0) - verb.startsWith("wake "), { steps, end } = behaviours[run] ?? { steps: [], end: line };
+    made.set(run, nth + 1);
+    return steps[nth]?.line ?? end;
+  };
+}
+// A line of `explore --details` about a step, by the name of the behaviour and the line of the script.
+export function inScript(behaviours, words) {
+  const [, run, step] = /^run (\d+) from step (\d+) of \d+ on: /.exec(words) ?? [], { name, steps } = behaviours?.[run] ?? {};
+  const found = steps?.[step - 1];
+  return found ? `${name}, line ${found.line}: ${found.words}` : words;
 }
 // The row whose witness has this number.
 export const rowOf = (rows, id) => rows.findLast(({ from }) => from <= id);

@@ -1,15 +1,14 @@
 // Judging: a text is asked about, and what the engine answers is shown.
 import { $, app, casesAt, counted, when } from "../app.mjs";
+import { openCase } from "../lanes.mjs";
 import { addSource } from "../sources.mjs";
 import { showTable } from "../list.mjs";
 import { showCases } from "../view.mjs";
 import { escaped } from "../drawing.mjs";
 import { ask, end, isAsked } from "./asking.mjs";
 import { isView, setAddress } from "./address.mjs";
-import { showFault } from "./editor.mjs";
-import { faultIn, sortOf } from "./fault.mjs";
-import { behavioursOf, lineByLine } from "./lines.mjs";
-import { exploredRows, firstToShow, markShown, readExplored, rowOf, whyOf, witnessesOf } from "./explored.mjs";
+import { faultIn, showFault, sortOf } from "./editor.mjs";
+import { behavioursOf, exploredRows, firstToShow, lineByLine, markShown, readExplored, rowOf, whyOf, witnessesOf } from "./explored.mjs";
 const SOON = 400;  // ms after which a task is told of, and what is shown of an older text is pale
 const TITLE = "ttrun in a page";
 // `text` is what is asked about, `input` the same for the engine: the text, or the bytes of a file. `turn` is the number of the text,
@@ -72,7 +71,7 @@ async function searchScript() {
   tellFound();
   $("#rows").innerHTML = `<table>${exploredRows(state.rows, false)}</table>`;
   begin(took => tellFound(`; searching again for the witnesses, ${took}`));
-  const drawn = await answerTo("explore", "--history", ...limit);
+  const drawn = await answerTo("explore", "--evidence", ...limit);
   if (!drawn) return;
   done();
   tellFound();
@@ -83,12 +82,10 @@ async function searchScript() {
   $("#rows").innerHTML = `<table>${exploredRows(state.rows, isWhole)}</table>`;
   show(isWhole ? firstToShow(state.rows) : []);
 }
-// The rows of a witness have the lines of the script, and its runs the names of their behaviours.
+// The entries of a witness have the lines of the script.
 function takeLines(one) {
-  const behaviours = state.behaviours.get(one.name) ?? [];
-  one.names = new Map(behaviours.map(({ name }, run) => [run, name]));
-  one.lineByLine = () => lineByLine(behaviours);
-  if (one.why) one.why.behaviour = behaviours[one.why.run]?.name ?? null;
+  one.lineByLine = () => lineByLine(state.behaviours.get(one.name) ?? []);
+  if (one.why) one.why.line = openCase(one.source.text, one).list[one.why.index].line;
 }
 function tellFound(more = "") {
   const { status, took } = state.found;

@@ -21,7 +21,7 @@ class Engine {
     const line = new TextEncoder().encode(words.map(word => `${word}\0`).join("")), given = [line, input];
     const held = [...given.map(bytes => this.hold(bytes)), ...[...rooms, 16].map(length => this.room(length))];
     const [, , output, errors, lengths] = held, pairs = [given[0], given[1]].flatMap((bytes, nth) => [held[nth], BigInt(bytes.length)]);
-    const status = this.exports.tc_answer(...pairs, output, BigInt(rooms[0]), lengths, errors, BigInt(rooms[1]), lengths + 8n) & 255;
+    const status = this.exports.filskeam_answer(...pairs, output, BigInt(rooms[0]), lengths, errors, BigInt(rooms[1]), lengths + 8n) & 255;
     const sizes = [...new BigUint64Array(this.exports.memory.buffer, Number(lengths), 2)].map(Number);
     const made = [output, errors].map((at, nth) => this.bytes(at, Math.min(sizes[nth], rooms[nth])).slice());
     for (const at of held) this.exports.host_free(at);

@@ -5,27 +5,27 @@ The last line is 'N passed, M failed'.
 """
 import os
 import re
-import subprocess
 import sys
+from collections import Counter
 from typing import Callable, Dict, Iterator, List, Tuple
 
 sys.dont_write_bytecode = True
 
-from sources import TOP, Sources, files_below, text_of
+from sources import TOP, Block, Document, Sources, cells_of, crates, files_below, named_by, read, text_of
 
-sys.path += [os.path.join(TOP, it) for it in ("tests/program", "tests/mutants", "page")]
+sys.path += [os.path.join(TOP, it) for it in ("tests", "tests/program", "tests/mutants", "page")]
 
 import believed
 import commands as shell
 import counted
-import edits
-import forms
 import make
 import graph
+import layout
+import lists
 import memory
 import plain
-import unsaid
-from documents import Block, Document, cells_of, named_by, read
+from harness import Answer, Skipped, call, checkout as tracked, status_of
+from lists import Change, Mutant, MutantList
 from script_reader import read_script
 from texts import Judged
 
@@ -46,6 +46,8 @@ FEWEST_WORDS_SAID_ONCE = 11
 NAME = re.compile(r"\w+(?:_\w+)+|\w+(?:::\w+)+|(?:[A-Z][a-z]+){2,}")
 # A path in backquotes; but one with a word in capitals represents many, and what is built is not there before.
 PATH = re.compile(r"[\w.*+-]+(?:/[\w.*+-]+)+/?|[\w-]+\.(?:rt|antt|edit|py|sh)")
+# Names in backquotes that are in parentheses.
+ASIDE = re.compile(r"\((`\w+`(?:,\s`\w+`)*)\)")
 OF_MANY = re.compile(r"\*|\b[A-Z]{2,}\b(?!\.md)|\b[A-Z]/[A-Z]\b|/out/")
 CODE = re.compile(r"`([^`]+)`")
 # The begin of a block that is a whole text of the program, and no pattern of one.
@@ -53,6 +55,10 @@ WHOLE = re.compile(r"testcase,|history \d \w+ \d|behaviours \d|legal |cases \d|t
 # A number that only a reader of some other list could look up.
 NUMBER = re.compile(r"(?<![\w.#])(?:[TDW](?:1?\d|2[0-2])[a-g]?|R(?:1[0-5]|[1-9])|B[1-5])(?![\w.(<])|\b[Rr]ows?[ _]\d+\b|\bw\d{1,2}_")
 OPTIONS = re.compile(r"(?:run)?(?: (?:--csv|--history|--evidence|--progress|--only \w+|--stop-on (?:none|pass|inconc|fail|error)))*|check|replay|report --summary")
+# Each edit that the gate tries takes 10 to 60 seconds, and a crate that has some is proved again for them.
+MOST_IN_THE_GATE = 130
+FEWEST_OF_A_CRATE = 3
+FEWEST_MUTANTS = 800
 
 
 def unlinked(text: str) -> List[str]:
@@ -97,6 +103,9 @@ def unseen_links(sources: Sources) -> Iterator[str]:
     for planted in ("`Table::plays`", "`CaseState::play`", "`Table::play`", "`Table::play`] (`ads`)", "`Table::would`] (`reply`)"):
         name, _, clauses = planted.partition("]")
         if not list(wrong_links_to_names(sources, [Document("docs/plant.md", [f"[{name}]({file}){clauses}"])])):
+            yield f"nobody finds {planted}"
+    for planted in ("explore (`again`)", "its `Table::plays`"):
+        if not list(unknown_names(sources, "tc_explore", [planted])):
             yield f"nobody finds {planted}"
 
 
@@ -216,10 +225,15 @@ def said_twice(documents: List[Document]) -> Iterator[str]:
                 yield f"{document.path}: this stands in {other} too: {text[:60]}.."
 
 
-def unknown_names(sources: Sources, crate: str) -> Iterator[str]:
+def unknown_names(sources: Sources, crate: str, lines: List[str]) -> Iterator[str]:
+    """What a README of a crate names that is not in the sources. What it names in parentheses, as a clause of one word, is of the crate
+    or of one that it uses."""
     path = f"crates/{crate}/README.md"
-    text = re.sub(r"```.*?```", "", "\n".join(read(TOP, path).lines), flags=re.DOTALL)
+    text = re.sub(r"```.*?```", "", "\n".join(lines), flags=re.DOTALL)
     yield from (f"{path}: {it} stands nowhere" for it in unlinked(text) if NAME.fullmatch(it) and not sources.has(it))
+    aside = [it for names in ASIDE.findall(LINKED.sub("", text)) for it in CODE.findall(names)]
+    known = {crate, *sources.crates[crate]}
+    yield from (f"{path}: {it} is no name of {crate}, or of what it uses" for it in aside if known.isdisjoint(sources.places.get(it, ())))
 
 
 def readmes_of_crates(sources: Sources) -> Iterator[str]:
@@ -237,7 +251,7 @@ def readmes_of_crates(sources: Sources) -> Iterator[str]:
         fewest = FEWEST_LINES_OF_A_CRATE if crate in OWN_CRATES or crate.startswith("tc_") else 1
         if not fewest <= len(lines) - 1 <= MOST_LINES_OF_A_CRATE:
             yield f"{path}: {len(lines) - 1} lines, where {fewest} to {MOST_LINES_OF_A_CRATE} are wanted"
-        yield from unknown_names(sources, crate)
+        yield from unknown_names(sources, crate, lines)
 
 
 def paths(documents: List[Document]) -> Iterator[str]:
@@ -252,17 +266,11 @@ def paths(documents: List[Document]) -> Iterator[str]:
                     yield f"{document.path}:{number}: {name} is no path from the top"
 
 
-def tracked() -> List[str]:
-    listed = subprocess.run(["git", "ls-files", "-co", "--exclude-standard"], cwd=TOP, stdout=subprocess.PIPE, check=True)
-    return [it for it in listed.stdout.decode().split("\n") if os.path.isfile(os.path.join(TOP, it))]
-
-
 def numbers() -> Iterator[str]:
     """Numbers that represent a rule or a case which is written elsewhere."""
     for path in tracked():
         try:
-            with open(os.path.join(TOP, path), encoding="utf-8") as file:
-                lines = file.read().split("\n")
+            lines = text_of(path).split("\n")
         except UnicodeDecodeError:
             continue
         for number, line in enumerate(lines, 1):
@@ -282,9 +290,56 @@ def nameless() -> Iterator[str]:
             yield f"{path}: {lines[0]}"
 
 
-def other_versions() -> List[str]:
-    """Copies of the version that are not the program's."""
-    return subprocess.run([os.path.join(TOP, "tools", "version"), "--check"], stdout=subprocess.PIPE, text=True, check=False).stdout.splitlines()
+def edit_of(crate: str, path: str) -> Mutant:
+    """An edit that the gate tries, as a mutant of its crate."""
+    found, file = Mutant(MutantList(crate), os.path.basename(path)[: -len(".edit")]), ""
+    for line in text_of(path).split("\n"):
+        word, _, rest = line.partition(":")
+        rest = rest[1:] if rest.startswith(" ") else rest
+        if word == "file":
+            file = f"crates/{crate}/{rest.strip()}"
+        elif word == "old":
+            found.changes.append(Change(file, [rest]))
+        elif word == "new":
+            found.changes[-1].plus = [rest]
+    return found
+
+
+def faults_of_edits() -> Iterator[str]:
+    """Edits and mutants that cannot be planted, or share a name in the crates; a gate that has too many edits, or a crate with too few."""
+    mutants, unread = lists.read_all(TOP)
+    yield from unread
+    yield from (f"the mutant {title}: {why}" for title, why in lists.faults(mutants, TOP))
+    if len(mutants) < FEWEST_MUTANTS:
+        yield f"{len(mutants)} mutants, where there are no fewer than {FEWEST_MUTANTS}"
+    paths = [(crate, path) for crate in crates() for path in files_below(f"crates/{crate}/must-fail", ".edit")]
+    gate = [edit_of(*it) for it in paths]
+    unplanted = ((path, lists.fault_of(edit, TOP, {})) for (_, path), edit in zip(paths, gate))
+    yield from (f"{path}: {fault}" for path, fault in unplanted if fault)
+    for name, count in Counter(it.name for it in [*gate, *(it for it in mutants if not it.list.tests)]).items():
+        if count > 1:
+            yield f"{count} edits or mutants of crates are named {name}"
+    for crate, count in Counter(crate for crate, _ in paths).items():
+        if count < FEWEST_OF_A_CRATE:
+            yield f"{crate} has {count} edits: none or at least {FEWEST_OF_A_CRATE} pay for the proof that they begin with"
+    if len(gate) > MOST_IN_THE_GATE:
+        yield f"the gate has {len(gate)} edits, {MOST_IN_THE_GATE} at most"
+
+
+def other_checks() -> Iterator[str]:
+    """Crates of tests whose checks are not the same functions."""
+    found = {it: re.search(r"(?ms)^/// Ends the test unless what was found.*?^}.*?^}", text_of(it)) for it in tracked() if it.endswith("/checks.rt")}
+    yield from (path for path, it in found.items() if not it or it[0] != next(filter(None, found.values()))[0])
+
+
+def answers(checks: Dict[str, Callable[[], Iterator[str]]]) -> Iterator[Answer]:
+    """Whether each check has found nothing, and its lines."""
+    for name, check in checks.items():
+        try:
+            faults = list(check())
+            yield not faults, "\n  ".join([f"{'FAILED' if faults else 'ok'}: {name}", *faults])
+        except Skipped as lacking:
+            yield None, f"SKIPPED: {name}: {lacking}"
 
 
 def main() -> int:
@@ -310,7 +365,7 @@ def main() -> int:
         "a planted block of commands and a planted option are found": shell.unseen,
         "the lines of scripts next to those of TTCN-3 are read": shell.unread_lines,
         "all links lead somewhere": lambda: links(documents),
-        "the text of each link is on one line": lambda: forms.broken_links(documents),
+        "the text of each link is on one line": lambda: plain.broken_links(documents),
         "all paths begin at the top, and lead somewhere": lambda: paths(documents),
         "no line of prose is too long": lambda: long_lines(documents),
         "no document has too many words, and all together have few": lambda: long_documents(documents),
@@ -324,27 +379,22 @@ def main() -> int:
         "another number in a document is found": counted.unseen,
         "the sources have the texts that tables give to faults, moves and replies": counted.unsaid,
         "no sentence stands in two documents": lambda: said_twice(documents),
-        "each decision has its reason and its consequence": lambda: forms.decisions(read(TOP, "docs/DECISIONS.md")),
-        "each document begins with who reads it": lambda: forms.readers(documents),
-        "each change was added, changed, fixed or removed": lambda: forms.changes(read(TOP, "CHANGELOG.md")),
+        "each decision has its reason and its consequence": lambda: plain.decisions(read(TOP, "docs/DECISIONS.md")),
+        "each document begins with who reads it": lambda: plain.readers(documents),
+        "each change was added, changed, fixed or removed": lambda: plain.changes(read(TOP, "CHANGELOG.md")),
         "each library and program has a README, and what it names stands in the sources": lambda: readmes_of_crates(sources),
-        "each bug can be planted, has a name of its own, and the gate has few": edits.faults,
+        "each bug can be planted, has a name of its own, and the gate has few": faults_of_edits,
         "each public call is refused memory in turn, or made with none, or says why not": memory.unlisted,
-        "no value is kept for ever, no wait is bare, and no lock is taken under itself": unsaid.faults,
-        "a planted wait, lock or value that is kept is found": unsaid.unseen,
+        "no value is kept for ever, no wait is bare, and no lock is taken under itself": memory.slips,
+        "a planted wait, lock or value that is kept is found": memory.unseen_slips,
         "no number stands for a rule that is written elsewhere": numbers,
         "the first line of each source says what it is": nameless,
-        "each copy of the version is the program's": other_versions,
+        "the files of each crate are in the layout of rt fmt": layout.differing,
+        "a planted file in another layout is found": layout.unseen,
+        "each copy of the version is the program's": lambda: call([os.path.join(TOP, "tools/version"), "--check"]).output.splitlines(),
+        "all crates of tests have the same checks": other_checks,
         "the page is what its sources make": make.differing}
-    failed = 0
-    for name, check in checks.items():
-        faults = list(check())
-        failed += bool(faults)
-        print(f"{'FAILED' if faults else 'ok'}: {name}")
-        for it in faults:
-            print(f"  {it}")
-    print(f"{len(checks) - failed} passed, {failed} failed")
-    return 1 if failed else 0
+    return status_of(answers(checks))
 
 
 if __name__ == "__main__":

@@ -2,19 +2,18 @@
 import re
 from typing import Dict, Iterator, List, Tuple
 
-from documents import Block, Document, cells_of, read
 from script_reader import read_script
-from sources import TOP, files_below, text_of
+from sources import TOP, Document, cells_of, files_below, read, text_of
 from texts import Judged
 
 # What begins a command.
 BEGINS = re.compile(r"(?m)^(?:\S*\./ttrun|\./gate|\./release|rt |python3 |clients/|cp -r|pip |c\+\+ |git |tar )")
 PIPELINES, GUIDE, LIBRARY = "docs/pipelines.md", "docs/guide.md", "docs/library.md"
-BLOCKS, SHOWN = "tests/documents/blocks.py", "tests/program/documents_run.py"
+BLOCKS, SHOWN = "tests/documents/blocks.py", "tests/program/examples.py"
 # A document, what the blocks have, and the test that runs them: its file, and its name.
 RUN: Tuple[Tuple[str, str, str, str], ...] = (
-    ("README.md", "./ttrun run < examples/restart.script", SHOWN, "cases"), ("README.md", "python3 bench.py", BLOCKS, "the_bench_of_the_readme"),
-    (PIPELINES, "", BLOCKS, "every_block_on_a_campaign_that_fails"), (GUIDE, "< examples/", SHOWN, "cases"),
+    ("README.md", "./ttrun run < examples/restart.script", SHOWN, "of_documents"), ("README.md", "python3 bench.py", BLOCKS, "the_bench_of_the_readme"),
+    (PIPELINES, "", BLOCKS, "every_block_on_a_campaign_that_fails"), (GUIDE, "< examples/", SHOWN, "of_documents"),
     (GUIDE, "", BLOCKS, "blocks_of_the_guide"), (GUIDE, "printf 'testcase", SHOWN, "shown_cases"),
     (GUIDE, "./ttrun explore --details < race.script", SHOWN, "shown_cases"),
     (LIBRARY, "cp -r crates/car_window", BLOCKS, "the_copy_is_a_crate_as_the_claims_have_it"),
@@ -29,7 +28,7 @@ RUN: Tuple[Tuple[str, str, str, str], ...] = (
 # The same of commands that a sentence has: those with an input.
 TYPED: Tuple[Tuple[str, str, str, str], ...] = (
     ("README.md", "race.script", BLOCKS, "the_race_of_the_readme"),
-    (GUIDE, "< examples/", SHOWN, "cases"), (PIPELINES, "campaign.script", BLOCKS, "commands_in_the_text"),
+    (GUIDE, "< examples/", SHOWN, "of_documents"), (PIPELINES, "campaign.script", BLOCKS, "commands_in_the_text"),
     ("docs/benches.md", "< heater.script", BLOCKS, "the_model_of_a_bench"))
 # A command with an input; one with a word in capitals is a pattern.
 INPUT, PATTERN = re.compile(r"(?:\./ttrun|cat) .*[<|]"), re.compile(r"\b[A-Z]{2,}\b")
@@ -42,10 +41,6 @@ OPTION = re.compile(r"(?<![\w-])--[a-z][a-z-]*\b")
 FEWEST_OPTIONS = 25
 # The table of lines that a script has where TTCN-3 has others, and how many there are at least.
 NEXT_TO_TTCN, FEWEST_LINES = ("docs/scripts.md", "If you know TTCN-3"), 12
-
-
-def blocks_of_commands(document: Document) -> List[Block]:
-    return [it for it in document.blocks() if it.language == "sh" or (it.language == "" and BEGINS.search(it.text))]
 
 
 def typed(document: Document) -> List[Tuple[int, str]]:
@@ -68,7 +63,9 @@ def unlisted(there: List[Tuple[str, int, str]], table: Tuple[Tuple[str, str, str
 
 def unrun(documents: List[Document]) -> Iterator[str]:
     """Blocks of commands that no test of the list runs, and tests of the list that are not there, or run no block."""
-    return unlisted([(document.path, it.line, it.text) for document in documents for it in blocks_of_commands(document)], RUN, "block")
+    blocks = [(document.path, it.line, it.text) for document in documents for it in document.blocks()
+              if it.language == "sh" or it.language == "" and BEGINS.search(it.text)]
+    return unlisted(blocks, RUN, "block")
 
 
 def untyped(documents: List[Document]) -> Iterator[str]:
@@ -91,7 +88,7 @@ def unread_lines() -> Iterator[str]:
 
 def own_options() -> List[str]:
     """The options that the program, and the scripts of this repository, take."""
-    found = [f"--{it}" for it in re.findall(r'OptionRow\(\s*"([a-z-]+)"', text_of("crates/tc_command/src/command.rt"))]
+    found = [f"--{it}" for it in re.findall(r'OptionRow(?:::\w+)?\(\s*"([a-z-]+)"', text_of("crates/tc_command/src/command.rt"))]
     for path in ("ttrun", "gate", "release", "bench/run.sh"):
         found += OPTION.findall(text_of(path))
     for text in (text_of(path) for folder in ("tests", "tools", "page", "bench", "clients") for path in files_below(folder, ".py")):

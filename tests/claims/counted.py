@@ -3,20 +3,17 @@
 
 `python3 tests/claims/counted.py --write` writes them, and the table of what must be believed.
 """
+import math
 import os
 import re
 import sys
 from typing import Callable, Dict, Iterator, Tuple
 
-TOP = os.path.dirname(os.path.dirname(os.path.dirname(os.path.abspath(__file__))))
 sys.dont_write_bytecode = True
-sys.path += [os.path.join(TOP, it) for it in ("tests/program", "tests/mutants")]
 
 import believed
-import edits
 import plain
-from documents import read
-from sources import crates, files_below, text_of
+from sources import TOP, crates, files_below, read, text_of
 
 WORDS = ("none", "one", "two", "three", "four", "five", "six", "seven", "eight", "nine", "ten", "eleven", "twelve")
 FEWEST_ROWS_OF_LIMITS = 13
@@ -26,10 +23,7 @@ FEWEST_NUMBERS = 70
 def constant(path: str, name: str) -> int:
     """The value of a constant of Rattle or Python: a number, or a product of numbers."""
     found = re.search(rf"(?m)^(?:pub(?:\(crate\))? const {name}: \w+|const {name}: \w+|{name}) = ([\d_ *]+)", text_of(path))
-    value = 1
-    for factor in found[1].replace("_", "").split("*"):
-        value *= int(factor)
-    return value
+    return math.prod(map(int, found[1].replace("_", "").split("*")))
 
 
 def variants(path: str, name: str) -> int:
@@ -66,7 +60,6 @@ COUNTS: Dict[str, Callable[[], int]] = {
     "states": lambda: constant("crates/tc_command/src/word.rt", "STATES"),
     "most states": lambda: found_number("crates/tc_command/src/word.rt", r"--states takes a number from 1 to (\d+)"),
     "kept": lambda: constant("crates/tc_explore/src/limits.rt", "MEMORY"),
-    "weight": lambda: constant("crates/tc_explore/src/limits.rt", "SIZE_OF_ONE_MORE"),
     "bytes of histories": lambda: constant(INPUTS, "HISTORY_LIMIT"), "bytes of moves": lambda: constant(INPUTS, "SCRIPT_LIMIT"),
     "bytes of a script": lambda: constant(INPUTS, "SCRIPT_LIMIT"),
     "bytes of a sentence": lambda: constant("crates/tc_blocks/src/sentence.rt", "SENTENCE_BYTES"),
@@ -75,8 +68,8 @@ COUNTS: Dict[str, Callable[[], int]] = {
     "shown": lambda: constant("crates/tc_explain/src/quote.rt", "SHOWN"), "errors": lambda: variants("crates/tc_entry/src/reply.rt", "Fault"),
     "unbegun": lambda: constant("crates/tc_board/src/rule.rt", "UNBEGUN"), "closed": lambda: constant("crates/tc_board/src/rule.rt", "CLOSED"),
     "headline": lambda: believed_lines(True), "first crates": lambda: believed_lines(False, 12), "in Inside": lambda: believed_lines(inside=True),
-    "headline in Inside": lambda: believed_lines(True, inside=True), "edits": lambda: edits.MOST_IN_THE_GATE,
-    "edits of a crate": lambda: edits.FEWEST_OF_A_CRATE, "starts": lambda: constant(LIMITS, "BEHAVIOURS") - 1,
+    "headline in Inside": lambda: believed_lines(True, inside=True), "edits": lambda: constant("tests/claims/check.py", "MOST_IN_THE_GATE"),
+    "edits of a crate": lambda: constant("tests/claims/check.py", "FEWEST_OF_A_CRATE"), "starts": lambda: constant(LIMITS, "BEHAVIOURS") - 1,
     "parallel components": lambda: constant(LIMITS, "COMPONENTS") - 1,
     "states of Titan": lambda: constant("clients/titan/titan_logs/limits.py", "STATES"), "bytes of an entry": lambda: found_number(*ENTRY),
     "bytes of a recorded call": lambda: 2 * found_number(*ENTRY),
@@ -107,14 +100,14 @@ NUMBERS: Dict[str, Dict[str, str]] = {
     "docs/texts.md": {"Line 1 is `behaviours N`, N a number from 1 to #.": "behaviours", "with 0 to # arguments |": "arguments",
         "| `1` | 1 to # |": "behaviours of format 1", "| `2` | 1 to #,": "behaviours",
         "Inside come lines of these four forms, none or more of each, in any order. N is from 1 to #;": "behaviours",
-        "TEXT has 1 to # bytes": "bytes of a sentence", "at most # entries of each": "rows", "The first column is at least # bytes wide": "column",
+        "TEXT has 1 to # bytes": "bytes of a sentence", "neither has more than # entries": "rows", "The first column is at least # bytes wide": "column",
         "If a line or a word has more than # bytes, the first": "shown", "the longest that is taken has # bytes": "longest remark",
         "| has # bytes or more |": "bytes of a line of serve", "why-a-line-is-refused) has # texts": "refusals",
         "The word has at most # bytes": "name bytes", "a name has 1 to # letters": "name bytes", "if NAMES are more than # bytes": "shown",
         "of at most # bytes, is the same in a script": "bytes of a translated line",
-        "The limit is a number from 1 to #, by which": "most states", "bytes, the first # are shown": "shown"},
-    "docs/guide.md": {"at most # entries of both": "rows", "1,000,000; # without `--states`": "states",
-        "1 + B (S + 1) / #, rounded down": "weight", "bytes in which a search keeps its states | # (512": "kept",
+        "is a number from 1 to # |": "most states", "bytes, the first # are shown": "shown"},
+    "docs/guide.md": {"longer than # lines": "rows",
+        "bytes in which a search keeps its states | # (512": "kept",
         "A recorded call takes # bytes": "bytes of a recorded call", "runs # of its four test cases": "cases of verdicts that are run",
         "runs three of its # test cases": "cases of verdicts", "A file above # letters": "letters in the editor",
         "letters or # lines is checked": "lines in the editor", "| #; 100,000 without `--states`": "most states"},

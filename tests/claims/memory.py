@@ -1,4 +1,5 @@
-"""The public calls of the libraries: where each is refused memory, or made with none.
+"""The public calls of the libraries: where each is refused memory, or made with none. And what no clause can say: that a value is let go,
+that a wait looks again, and that no lock is taken under itself.
 
 A call that can answer that memory ran out has each of its growths refused in turn, and one that cannot is made with every growth
 refused. `crates/refused_memory` names its calls where a refusal begins. What it does not make is in tests/hostile/exempt.py, each with
@@ -203,10 +204,6 @@ def held(body: str) -> Set[str]:
     return set(re.findall(r"\w+", re.sub(r"(?m)^\s*(?:pub(?:\(crate\))? )?\w+\b(?!<)", "", text)))
 
 
-def holders() -> Set[str]:
-    return with_those_that_have(HOLDERS, ((name, held(body)) for kind, name, body in types() if kind != "trait"))
-
-
 def holds_allocator(call: Call, holding: Set[str]) -> bool:
     """Whether what a call is handed may hold an allocator, by the types in its head and its own type."""
     taken = call.head.partition(" -> ")[0]
@@ -222,7 +219,7 @@ def unlisted() -> Iterator[str]:
 def unlisted_in(calls: List[Call], causes: Set[str], lists: Lists) -> Iterator[str]:
     """The same of these calls and these lists; the causes are the types that report a refusal."""
     yield from lists.faults
-    holding = holders()
+    holding = with_those_that_have(HOLDERS, ((name, held(body)) for kind, name, body in types() if kind != "trait"))
     for name in WITHOUT_ALLOCATOR:
         yield from (f"{it.crate}: {it.path} is handed an allocator" for it in meant(name, calls) if holds_allocator(it, holding))
     for title, made, exemptions, wanted in (("memory is refused in turn to", [*lists.refused, *REFUSED_BY_THE_PROGRAM], UNREFUSED, True),
@@ -248,6 +245,38 @@ def missed_nowhere() -> Iterator[str]:
             if not any(name.split("::")[-1] in it for it in unlisted_in(calls, causes, lists)):
                 yield name
             made[name] = files
+
+
+KEPT = re.compile(r"\bmem::forget\b|\bforget\(|\bManuallyDrop\b|\bBox::leak\b|\.leak\(")
+# In a file that has a condition; `wait_while` looks again each time it wakes.
+BARE = re.compile(r"\bCondvar::wait\(|\.wait\(")
+WHOLE = re.compile(r"(?ms)^( *)(?:pub(?:\([a-z]+\))? )?fn (\w+)(.*?)^\1\}")
+PLANTED = ("mem::forget(book);", "let kept = ManuallyDrop::new(board);", "Box::leak(boxed);", "use std::sync::Condvar;\nchanged.wait(rt, book);",
+           "fn record() {\n    let book = book.lock(rt);\n    book.lock(rt);\n}", "fn wait() {\n    book.lock(rt);\n}\nfn wake() {\n    self.wait(rt);\n    book.lock(rt);\n}")
+
+
+def slips_in(text: str) -> Iterator[str]:
+    """What a file has of it."""
+    code = re.sub(r"//.*", "", text)
+    yield from KEPT.findall(code)
+    if "Condvar" in code:
+        yield from (f"a bare {it}" for it in BARE.findall(code))
+    bodies = {name: body for _, name, body in WHOLE.findall(code)}
+    locking = [name for name, body in bodies.items() if ".lock(" in body]
+    for name, body in bodies.items():
+        if body.count(".lock(") + sum(len(re.findall(rf"\bself\.{it}\(", body)) for it in locking) > 1:
+            yield f"{name} takes a lock twice"
+
+
+def slips() -> Iterator[str]:
+    """The same of each file of code."""
+    for path in files_below("crates", ".rt"):
+        yield from (f"{path}: {it}" for it in slips_in(text_of(path)))
+
+
+def unseen_slips() -> Iterator[str]:
+    """What is planted, and not found."""
+    yield from (it for it in PLANTED if not list(slips_in(it)))
 
 
 def main() -> int:

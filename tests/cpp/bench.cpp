@@ -347,30 +347,21 @@ void meets(Server& server) {
     std::cout << "rate " << callers << " " << static_cast<int>(callers * rounds / took.count()) << " " << result.verdict << "\n";
 }
 
-void speed(Server& server) {
-    for (int callers : {1, 8}) {
-        const int calls = 2000 / callers;
-        const auto began = std::chrono::steady_clock::now();
-        auto result = server.run("t", [callers, calls](Run& run) {
-            for (int at = 0; at < callers; ++at) run.start(run.create(), "busy", [calls](Run& it) { for (int call = 0; call < calls; ++call) it.get_verdict(); });
-            run.wait_done("all");
-        });
-        const Seconds took = std::chrono::steady_clock::now() - began;
-        std::cout << "rate " << callers << " " << static_cast<int>(2000 / took.count()) << " " << result.verdict << "\n";
-    }
-}
-
 }  // namespace
 
-int main(int count, char** words_given) {
+int main([[maybe_unused]] int count, char** words_given) {
     const std::map<std::string, void (*)(Server&)> cases = {
         {"raises", raises}, {"watchdog", watchdog}, {"late", late}, {"ends", ends}, {"errs", errs}, {"whys", whys}, {"calls", calls}, {"seconds", seconds}, {"waits", waits}, {"stops", stops},
-        {"misses", misses}, {"checks", checks}, {"stalls", stalls}, {"limits", limits}, {"words", words}, {"loses", loses}, {"random", random_cases}, {"reports", reports}, {"leaves", leaves}, {"meets", meets}, {"speed", speed},
+        {"misses", misses}, {"checks", checks}, {"stalls", stalls}, {"limits", limits}, {"words", words}, {"loses", loses}, {"random", random_cases}, {"reports", reports}, {"leaves", leaves}, {"meets", meets},
     };
     int status = 0;
     {
         const char* file = std::getenv("EVIDENCE");
-        Server server(std::vector<std::string>(words_given + 2, words_given + count), file != nullptr ? file : "", grace);
+#ifdef IN_PROCESS
+        Server server(filskeam::InProcess{}, file != nullptr ? file : "", grace);
+#else
+        Server server(filskeam::Pipe{{words_given + 2, words_given + count}}, file != nullptr ? file : "", grace);
+#endif
         cases.at(words_given[1])(server);
         status = server.close();
     }

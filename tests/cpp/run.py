@@ -3,6 +3,9 @@
 
 usage: tests/cpp/run.py [--server COMMAND] [--only WORD] [--list]
 
+With --server "library FOLDER", as ./ttrun --library prints it, the tests run over the table in the benches' own process, except
+those that are about a server.
+
 The benches are in tests/cpp/bench.cpp; without a compiler of C++ the tests fail, without CMake or GoogleTest some are skipped.
 The last line is 'N passed, M failed', with ', K skipped' after it if there are some; the status is 0 if nothing failed,
 otherwise 1. With the variable FILSKEAM_CPP the client is taken from that folder.
@@ -26,6 +29,7 @@ sys.path.insert(0, os.path.join(os.path.dirname(HERE), "serve"))
 
 import evidence
 import holding
+from harness import call
 from holding import TESTS, TOP, Fault, ServerRoom, Skipped, blocks_of, hold, same, text_of
 from table import Table
 from texts import read_move
@@ -55,6 +59,12 @@ for line in sys.stdin.buffer:
 
 # The evidence of a test case that sets one verdict.
 NEXT = "evidence 1 t_next 256\nbehaviour 0 main\n0 setverdict pass -> ok\n0 finish -> ok\nend pass\n"
+# The tests that are about a server in a process of its own, or no bench.
+OF_PIPES = ("the_examples_run", "a_project_finds_the_client", "without_a_compiler_nothing_passes", "a_status_that_no_server_has",
+            "news_between_a_question_and_its_answer", "a_case_past_its_limit_is_no_pass", "a_server_that_ends_or_writes_nonsense",
+            "a_result_says_who_and_why")
+# What a bench is linked with for the table in its own process.
+IN_PROCESS: List[str] = []
 # What starts a server, and writes the number of its process into a file.
 NAMED = ("sh", "-c", 'echo $$ > "$SERVER_PROCESS"; exec "$@"', "sh")
 
@@ -74,11 +84,7 @@ class Shown:
 
     def block(self) -> evidence.Block:
         """Its evidence, which must be whole and legal, with its verdict."""
-        blocks = evidence.blocks_of(self.evidence)
-        hold(len(blocks) == 1 and evidence.is_legal(blocks), f"the evidence is not legal: {self.evidence}")
-        same(blocks[0].verdict, self.verdict, "the verdict:")
-        same(blocks[0].refused, [], "refused lines:")
-        return blocks[0]
+        return evidence.whole_block(self.evidence, self.verdict)
 
 
 def shown_in(text: str) -> List[Shown]:
@@ -105,21 +111,18 @@ def shown_in(text: str) -> List[Shown]:
 class Place(ServerRoom):
     def bench(self, name: str, command: Sequence[str] = (), **more: str) -> Tuple[List[Shown], str]:
         """Runs a case of the bench: what it shows, and its whole output."""
-        ran = subprocess.run([self.path("bench"), name, *(command or self.command)], env={**os.environ, **more},
-                             stdout=subprocess.PIPE, stderr=subprocess.PIPE, timeout=SECONDS, check=False)
-        same((ran.returncode, ran.stderr), (0, b""), "the bench:")
-        return shown_in(ran.stdout.decode()), ran.stdout.decode()
+        ran = call([self.path("bench"), name, *(command or self.command)], env={**os.environ, **more})
+        same((ran.status, ran.errors), (0, ""), "the bench:")
+        return shown_in(ran.output), ran.output
 
     def build(self, compiler: str, source: str, *flags: str) -> str:
         target = self.path(os.path.basename(source).rpartition(".")[0])
-        printed(compiler, *FLAGS, *flags, source, "-o", target)
+        printed(compiler, *FLAGS, *flags, source, *IN_PROCESS, "-o", target)
         return target
 
     def verdicts(self, name: str) -> List[Tuple[str, str]]:
         """The names and verdicts of the evidence in a file, which must be legal."""
-        blocks = evidence.blocks_of(self.text(name))
-        hold(evidence.is_legal(blocks), f"{name} is not legal")
-        return [(it.name, it.verdict) for it in blocks]
+        return [(it.name, it.verdict) for it in evidence.legal_blocks(self.text(name))]
 
 
 def ran_to(status: int, *words: str, **more: str) -> str:
@@ -379,9 +382,8 @@ def a_result_says_who_and_why(place: Place) -> str:
                       "evidence:", *(f"  {it}" for it in NEXT.splitlines()), "status 3"])
     same(place.verdicts("run.evidence"), [("t_report", "fail"), ("t_next", "pass")])
     hold(place.text("run.evidence.cut").startswith("evidence 1 t_lost 256\n"), "what was cut is not there")
-    ran = subprocess.run([place.path("bench"), "waits", *place.command], env={**os.environ, "EVIDENCE": "/nowhere/it"},
-                         stdout=subprocess.PIPE, stderr=subprocess.PIPE, timeout=SECONDS, check=False)
-    hold(b"/nowhere/it cannot be written" in ran.stderr and not ran.stdout, "a file that cannot be written is reported late")
+    ran = call([place.path("bench"), "waits", *place.command], env={**os.environ, "EVIDENCE": "/nowhere/it"})
+    hold("/nowhere/it cannot be written" in ran.errors and not ran.output, "a file that cannot be written is reported late")
     return f"{len(lines)} lines"
 
 
@@ -389,7 +391,7 @@ def nothing_is_left_behind(place: Place) -> str:
     """By the sanitizers of addresses, of leaks and of undefined behaviour: twenty test cases leave no memory, and use none wrongly."""
     with tempfile.TemporaryDirectory(prefix="filskeam-cpp-") as room:
         other = Place(room, place.command)
-        other.build("c++", BENCH, "-fsanitize=address,undefined", "-fno-sanitize-recover=all")
+        other.build("c++", BENCH, "-O0", "-fsanitize=address,undefined", "-fno-sanitize-recover=all")
         for name in ("leaves", "raises", "random"):
             other.bench(name)
     return "3 benches"
@@ -398,7 +400,7 @@ def nothing_is_left_behind(place: Place) -> str:
 def no_thread_races_with_another(place: Place) -> str:
     """By ThreadSanitizer of each compiler that has it."""
     found = []
-    for compiler in COMPILERS:
+    for compiler in COMPILERS[:1] if IN_PROCESS else COMPILERS:
         with tempfile.TemporaryDirectory(prefix="filskeam-cpp-") as room:
             other = Place(room, place.command)
             try:
@@ -406,7 +408,7 @@ def no_thread_races_with_another(place: Place) -> str:
             except Fault:
                 continue
             other.build(compiler, BENCH, "-fsanitize=thread")
-            for name in ("leaves", "raises", "watchdog", "late", "ends", "stops", "waits", "loses", "random", "meets"):
+            for name in ("leaves", "raises", "watchdog", "late", "ends", "stops", "waits", *["loses"] * (not IN_PROCESS), "random", "meets"):
                 other.bench(name, stub("echo evidence 1 t 256; exec sleep 1000") if name == "loses" else (), TSAN_OPTIONS="halt_on_error=1")
             found.append(compiler)
     if not found:
@@ -428,22 +430,18 @@ def callers_that_wait_for_one_another(place: Place) -> str:
     return f"{rates[0]} calls a second"
 
 
-def calls_in_a_second(place: Place) -> str:
-    """One caller, and eight at once."""
-    _, text = place.bench("speed")
-    rates = re.findall(r"^rate (\d+) (\d+) none$", text, re.MULTILINE)
-    hold(len(rates) == 2 and all(int(rate) > 500 for _, rate in rates), text)
-    return ", ".join(f"{rate} calls a second of {callers}" for callers, rate in rates)
-
-
 def main() -> int:
     holding.load(__name__)
     given, [names] = holding.chosen(holding.words_of_clients("tests the C++ client of ttrun serve"), (TESTS, 0))
+    command = holding.command_of(given)
+    if command[0] == "library":
+        names = [it for it in names if it not in OF_PIPES]
+        IN_PROCESS[:] = ["-DIN_PROCESS", os.path.join(command[1], "libfilskeam.a")]
     if not shutil.which("c++"):
         print(f"there is no compiler of C++: nothing is known of the C++ client\n0 passed, {len(names)} failed")
         return 1
     with tempfile.TemporaryDirectory(prefix="filskeam-cpp-") as room:
-        place = Place(room, holding.command_of(given))
+        place = Place(room, command)
         place.build("c++", BENCH)
         return holding.status_of(holding.judged(it, place) for it in names)
 

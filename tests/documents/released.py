@@ -9,9 +9,9 @@ from typing import List
 
 import words as of_words
 from browser import Chromium
-from documents import Document, output_of, read
-from harness import Folder, Ran, Skipped, add_tools, bytes_of, call, hold, same, tests_of, text_of
-from room import checkout, copy_checkout, read_yaml
+from sources import Document, output_of, read
+from harness import Folder, Ran, Skipped, add_tools, bytes_of, call, checkout, copy_checkout, hold, same, tests_of, text_of
+from room import read_yaml
 
 GREEN = "2345 passed, 0 failed"
 TOOLCHAIN = "the toolchain of the tests"
@@ -21,7 +21,7 @@ PARTS = ("ttrun", "MANIFEST", "SHA256SUMS", "README.md", "CHANGELOG.md", "docs/g
          "docs/page-case.png", "docs/benches.md", "examples/restart.script", "page/viewer.html", "clients/titan/ttrun-titan",
          "clients/titan/titan_logs/table.py", "clients/python/README.md", "clients/python/build_backend.py", "clients/python/pytest_filskeam.py",
          "clients/python/filskeam/py.typed", "clients/cpp/README.md", "clients/cpp/filskeam.hpp", "clients/cpp/heater.cpp",
-         "clients/cpp/filskeam_gtest.hpp", "clients/cpp/CMakeLists.txt", "page/play.html")
+         "clients/cpp/filskeam.h", "clients/cpp/filskeam_gtest.hpp", "clients/cpp/CMakeLists.txt", "page/play.html")
 # What a release is made of and by.
 NEEDED = ("release", ".gitignore", "*.md", "docs", "examples", "page", "clients", "tools/manual.py")
 MANUAL, BASH, ZSH, FISH = (f"share/{it}" for it in ("man/man1/ttrun.1", "bash-completion/completions/ttrun", "zsh/vendor-completions/_ttrun",
@@ -39,7 +39,7 @@ class Tree(Folder):
         self.room, self.program, said = room, self.path("crates/ttrun/out/ttrun"), call([program, "--version"]).output
         hold(re.fullmatch(r"ttrun \d+\.\d+\.\d+\n", said), f"the program says {said!r}, where a version and no more is wanted")
         self.version = said.split()[1]
-        copy_checkout(self, *NEEDED)
+        copy_checkout(self.folder, *NEEDED)
         os.makedirs(os.path.dirname(self.program))
         shutil.copy2(program, self.program)
         self.write("CHANGELOG.md", re.sub(r"(?m)^## (?:Unreleased$|[\d.]+,)", f"## {self.version},", self.text("CHANGELOG.md"), count=1))
@@ -150,7 +150,7 @@ class Archive(Unpacked):
         return f"{os.path.getsize(self.package) // 1024} KiB"
 
     def the_package_has_the_library_of_the_gate(self) -> str:
-        out = "crates/filskeam/out/"
+        out = "crates/filskeam/out/library/"
         for name, text in (("libfilskeam.a", "archive"), ("libfilskeam.so", "shared"), ("filskeam.h", "header"), ("filskeam.pc", "prefix=/x\nlibdir=/y\n")):
             self.tree.write(out + name, text)
         self.tree.record(library=hashlib.sha256(b"archive").hexdigest())
@@ -219,17 +219,12 @@ class Archive(Unpacked):
         hold(not self.shell("command -v rt").output, "there is an rt")
         return f"{count} commands"
 
-    def the_archive_writes_its_page(self) -> str:
-        ran = self.shell("./ttrun report --html < examples/restart.history")
-        same(self.text("page/viewer.html").replace(MARK, MARK + self.text("examples/restart.history")), ran.output, "another page than the viewer's")
-        return f"{len(ran.output)} bytes"
-
-    def the_page_of_the_archive_opens(self) -> str:
-        found = Chromium.find()
+    def the_archive_writes_its_page_which_opens(self) -> str:
+        ran, found = self.shell("./ttrun report --html < examples/restart.history > restart.html"), Chromium.find()
+        hold(ran.status == 1, ran)
+        same(self.text("page/viewer.html").replace(MARK, MARK + self.text("examples/restart.history")), self.text("restart.html"), "another page than the viewer's")
         if found is None:
             raise Skipped("there is no Chromium")
-        ran = self.shell("./ttrun report --html < examples/restart.history > restart.html")
-        hold(ran.status == 1, ran)
         with Chromium(found) as browser:
             for name, words in (("page/viewer.html", ()), ("restart.html", ("t_fail", "fail"))):
                 browser.open(self.path(name))
@@ -259,7 +254,7 @@ class Archive(Unpacked):
             same((first[""], "", 1), (ran.output, ran.errors, ran.status), source)
         ran = self.shell(next(block.text for block in self.read("docs/benches.md").blocks() if "< heater.evidence" in block.text))
         hold(len(re.findall(r"(?m)^legal t_heater \d+ fail$", ran.output)) == 2 and not ran.errors and ran.status == 1, ran)
-        message = "run 1 on component 1 heater: setverdict fail -> ok"
+        message = "run 1 probe on component 1 heater: setverdict fail -> ok: &quot;too hot&quot;"
         same(2, self.text("run.xml").count(f'<failure type="fail" message="{message}">'), "the report does not say who failed")
         hold(MARK + "evidence 1 t_heater 256\n" in self.text("run.html"), "the page has no evidence")
         return "2 benches"

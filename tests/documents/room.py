@@ -38,18 +38,6 @@ def script_of(*names: str) -> str:
 FAILING, PASSING = script_of(*VERDICTS), script_of("t_pass", "t_waits")
 
 
-def copy_checkout(target: Folder, *paths: str) -> None:
-    """Copies the files of the repository at these paths, all if there is none, as they are now."""
-    for name in checkout(*paths):
-        os.makedirs(os.path.dirname(target.path(name)), exist_ok=True)
-        shutil.copy2(os.path.join(TOP, name), target.path(name))
-
-
-def checkout(*paths: str) -> List[str]:
-    listed = call(["git", "ls-files", "-co", "--exclude-standard", *paths], cwd=TOP)
-    return [it for it in listed.output.splitlines() if os.path.isfile(os.path.join(TOP, it))]
-
-
 def read_yaml(text: str) -> Any:
     """What PyYAML reads, each scalar a text. No key may be there twice."""
     try:

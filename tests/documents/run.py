@@ -21,7 +21,7 @@ from harness import answer_of, chosen, status_of, words_of
 from case import lanes
 
 # A test gets a folder and the program, and returns what it reached.
-GROUPS = ((blocks.TESTS, 20), (servers.TESTS, 9), (released.TESTS, 19))
+GROUPS = ((blocks.TESTS, 20), (servers.TESTS, 9), (released.TESTS, 18))
 
 
 def in_a_room(test: Callable[[str, str], str], program: str) -> str:

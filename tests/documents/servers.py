@@ -10,7 +10,7 @@ from typing import Callable, Dict, List, Optional, Tuple
 
 from blocks import PIPELINES, WORST, hold_junit, hold_left, step
 from room import SHELLS, VERDICTS, Room, read_yaml
-from documents import Block, read
+from sources import Block, read
 from harness import TOP, Ran, bytes_of, hold, same, text_of
 
 DOCUMENTS = (PIPELINES, "docs/titan.md")

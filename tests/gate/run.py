@@ -23,7 +23,7 @@ from harness import SECONDS, TOP, Folder, add_tools, answer_of, call, chosen, ho
 
 # The parts in their order, each by the command that it runs.
 PARTS = ("tests/claims/check.py", "tests/gate/run.py", "tests/wrapper/run.py", "rt", "tests/program/run.py", "tests/hostile/run.py",
-         "tests/serve/run.py", "tests/python/run.py", "tests/cpp/run.py", "tests/titan/run.py", "tests/page/run.py",
+         "tests/serve/run.py", "tests/python/run.py", "tests/cpp/run.py", "tests/embed/run.py", "tests/titan/run.py", "tests/page/run.py",
          "tests/play/run.py", "tests/documents/run.py")
 # The words that a part is run with, if it has any.
 WORDS = {"rt": "ci", **{f"tests/{it}/run.py": "--server crates/ttrun/out/ttrun serve" for it in ("serve", "python", "cpp")}}
@@ -172,6 +172,12 @@ class Gate(Room):
             self.run(last=counted(play=0), play=f"echo '0 passed, 0 failed, {skipped} skipped'")
         self.run(status=1, last=counted(1, page=0), page="echo '8 passed, 0 failed, some skipped'")
 
+    def what_failed_is_named_at_the_end(self) -> None:
+        lines, errors = self.run(status=1, last=counted(3, hostile=5, rt=7), rt="echo 'rt: FAILED: tc_run (tests)'; echo '7 passed, 1 failed'; exit 1",
+                                 hostile="printf 'FAILED a\\n  why\\nok b\\nFAILED c\\n5 passed, 2 failed\\n'; exit 1")
+        wanted = ["gate: rt ci: rt: FAILED: tc_run (tests)", "gate: hostile use: FAILED a", "gate: hostile use: FAILED c"]
+        same((wanted, wanted), (lines[-4:-1], errors.splitlines()[-3:]), "what it says at its end")
+
     def both_outputs_in_one_file(self) -> None:
         self.put_parts(page="echo '8 passed, 0 failed, 3 skipped'")
         with open(self.path("all"), "wb") as file:
@@ -197,8 +203,9 @@ class Gate(Room):
         self.note_limits("bin/timeout")
         self.run()
         limits = self.limits()
-        hold(len(limits) == len(PARTS) and limits["rt ci"] >= 10_000, limits)
-        hold(all(120 <= limit <= 1200 for words, limit in limits.items() if words != "rt ci"), limits)
+        building = [limits.pop(it) for it in ("rt ci", "python3 tests/embed/run.py")]
+        hold(building[0] >= 10_000 and building[1] >= 3000 and len(limits) == len(PARTS) - 2, (building, limits))
+        hold(all(120 <= limit <= 1200 for limit in limits.values()), limits)
 
     def a_part_that_fails_stops_no_other(self) -> None:
         self.run(status=1, last=counted(1, claims=0), claims="echo '0 passed, 1 failed'; exit 1")
@@ -316,7 +323,7 @@ class Gate(Room):
         hold(len(limits) > len(installed) and all(it.startswith("apt-get ") and limit >= 300 for it, limit in limits.items()), limits)
         for name in ("node", "chromium", "firefox", "pdftotext", "parallel", "zsh", "fish"):
             self.write(f"bin/{name}", "#!/usr/bin/env bash\n", is_run=True)
-        asked = [it for it in self.integrate(1, 8)[0] if "install" in it and "pytest" not in it]
+        asked = [it for it in self.integrate(1, 8)[0] if "install" in it and " python3-" not in it]
         same([], asked, "what is there is installed")
 
 

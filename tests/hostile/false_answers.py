@@ -1,8 +1,7 @@
 """False answers, each of which must be judged wrong, and true ones next to them: a test of the judge of the other tests."""
 from typing import Callable, Iterator, List, Tuple
 
-from outcomes import NO_MEMORY, Task, judged
-from refusing import Ran
+from refusing import NO_MEMORY, Ran, Task, judged
 from sweeps import Sweep, sweep, text
 
 SCRIPT = text("testcase a;behaviour main;setverdict pass;end;end;testcase b;behaviour main;end;end")
@@ -19,11 +18,11 @@ RECORD = text("a,1,0,1,0,0,0,pass")
 HISTORY = text("history 2 a 1;0 setverdict pass -> ok;0 finish -> ok;end pass;history 2 b 1;0 finish -> ok;end none")
 
 COUNTS = b'tests="2" failures="0" errors="0"'
-HEAD = (b'<?xml version="1.0" encoding="UTF-8"?>\n<testsuites COUNTS>\n<testsuite name="ttrun" COUNTS skipped="SKIPPED">\n'
+HEAD = (b'<?xml version="1.0" encoding="UTF-8"?>\n<testsuites COUNTS skipped="SKIPPED">\n<testsuite name="ttrun" COUNTS skipped="SKIPPED">\n'
         b'<properties>\n<property name="version" value="1"/>\n</properties>\n')
-OF_A = b'<testcase name="a" classname="ttrun">\n<system-out>\nlocal 0 pass\n</system-out>\n</testcase>\n'
-OF_B = b'<testcase name="b" classname="ttrun">\n<skipped/>\n<system-out>\nlocal 0 none\n</system-out>\n</testcase>\n'
-NOT_B = OF_B.replace(b"<skipped/>", b'<error type="aborted" message="no memory"/>').replace(b"local 0 none\n", b"")
+OF_A = b'<testcase name="a" classname="ttrun">\n<system-out>\n  pass: mtc\n</system-out>\n</testcase>\n'
+OF_B = b'<testcase name="b" classname="ttrun">\n<skipped/>\n<system-out>\n  none: mtc\n</system-out>\n</testcase>\n'
+NOT_B = OF_B.replace(b"<skipped/>", b'<error type="aborted" message="no memory"/>').replace(b"  none: mtc\n", b"")
 UNRUN_B = NOT_B.replace(b'<error type="aborted" message="no memory"/>', b'<skipped message="not run"/>')
 TAIL = b"</testsuite>\n</testsuites>\n"
 JUNIT = HEAD.replace(b"COUNTS", COUNTS).replace(b"SKIPPED", b"1") + OF_A + OF_B + TAIL

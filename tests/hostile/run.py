@@ -18,21 +18,19 @@ import time
 from collections import Counter
 from concurrent.futures import ThreadPoolExecutor
 from typing import Callable, List, Optional
+from unittest.mock import patch
 
 sys.dont_write_bytecode = True
 
-import calls
 import cuts
-import failing_devices
 import false_answers
 import random_halts
-import refused_car_window
 import sweeps
-import thread_limits
-from refusing import TOP, Refusing, refusing
+from refusing import Refusing, refusing
 from sweeps import Sweep
 
 from case import below, lanes
+from harness import PROGRAM
 
 # What must be met in the gate, by the tests that refuse something, and by those of texts.
 REFUSING_FLOORS = {"right": 900, "refused": 5000, "aborted": 2000, "served in part": 60}
@@ -62,10 +60,10 @@ def judged(title: str, work: List[Callable[[], Sweep]], floors: dict, threads: i
 
 def refused(library: Optional[Refusing], program: str, is_whole: bool, threads: int) -> List[List[str]]:
     """Runs the tests that a library refuses something; if there is none they fail."""
-    parts = (("calls of the library", calls.jobs(library), {}),
-             ("failing devices", failing_devices.jobs(library, program, is_whole), DEVICE_FLOORS),
+    parts = (("calls of the library", [lambda: sweeps.judged_calls(library)], {}),
+             ("failing devices", sweeps.jobs_of_devices(library, program, is_whole), DEVICE_FLOORS),
              ("refused memory and threads", sweeps.jobs(library, program, is_whole), REFUSING_FLOORS),
-             ("a program with test cases of its own", refused_car_window.jobs(library, is_whole), CAR_WINDOW_FLOORS))
+             ("a program with test cases of its own", sweeps.car_window_jobs(library, is_whole), CAR_WINDOW_FLOORS))
     if library is not None:
         return [it for title, work, floors in parts for it in judged(title, work, floors, threads)]
     fault = f"{sum(len(work) for _, work, _ in parts)} tests are not run, since there is no compiler of C to build refuse.c"
@@ -75,13 +73,9 @@ def refused(library: Optional[Refusing], program: str, is_whole: bool, threads: 
 
 def without_a_compiler(program: str) -> Sweep:
     """Runs the tests that a library refuses something where no compiler is found: they must fail, and say why."""
-    done, told, path = Sweep("without a compiler of C", runs=1), io.StringIO(), os.environ["PATH"]
-    os.environ["PATH"] = ""
-    try:
-        with contextlib.redirect_stdout(told), refusing() as library:
-            results = refused(library, program, False, 1)
-    finally:
-        os.environ["PATH"] = path
+    done, told = Sweep("without a compiler of C", runs=1), io.StringIO()
+    with patch.dict(os.environ, PATH=""), contextlib.redirect_stdout(told), refusing() as library:
+        results = refused(library, program, False, 1)
     if not any(results) or "no compiler of C" not in told.getvalue():
         done.faults.append(f"nothing failed, and it was said: {told.getvalue()!r}")
     return done
@@ -89,32 +83,31 @@ def without_a_compiler(program: str) -> Sweep:
 
 def limited(program: str, is_whole: bool, threads: int) -> List[List[str]]:
     """Runs the tests that the system refuses threads, or says that they are skipped."""
-    with thread_limits.for_each_user(program) as copied:
-        work = thread_limits.jobs(copied or program, is_whole)
+    with sweeps.for_each_user(program) as copied:
+        work = sweeps.jobs_of_limits(copied or program, is_whole)
         if copied is not None:
             return judged("threads refused by the system", work, LIMITED_FLOORS, threads)
-    print(f"skipped: {len(work)} tests of threads that the system refuses, since {thread_limits.why_not()}")
+    print(f"skipped: {len(work)} tests of threads that the system refuses, since {sweeps.why_not()}")
     return []
 
 
 def main() -> int:
     parser = argparse.ArgumentParser(description="hostile use of the built ttrun")
-    parser.add_argument("--program", default=os.path.join(TOP, "crates", "ttrun", "out", "ttrun"))
+    parser.add_argument("--program", type=os.path.abspath, default=PROGRAM)
     parser.add_argument("--all", action="store_true", help="each growth and each byte")
     parser.add_argument("--jobs", type=int, default=lanes(), help="runs at a time")
     given = parser.parse_args()
-    program = os.path.abspath(given.program)
-    for it in (program, calls.PROGRAM, refused_car_window.PROGRAM):
+    for it in (given.program, sweeps.CALLS, sweeps.CAR_WINDOW):
         if not os.access(it, os.X_OK):
             print(f"there is no program {it}: `rt run` in its crate builds it", file=sys.stderr)
             return 3
-    results = judged("judged answers", [*false_answers.jobs(), lambda: without_a_compiler(program)], {}, 1)
-    results += judged("texts", cuts.jobs(program, given.all), TEXT_FLOORS, given.jobs)
-    work = random_halts.jobs(program, given.all)
+    results = judged("judged answers", [*false_answers.jobs(), lambda: without_a_compiler(given.program)], {}, 1)
+    results += judged("texts", cuts.jobs(given.program, given.all), TEXT_FLOORS, given.jobs)
+    work = random_halts.jobs(given.program, given.all)
     results += judged("behaviours that halt one another", work, random_halts.floors(given.all), given.jobs)
-    results += limited(program, given.all, given.jobs)
+    results += limited(given.program, given.all, given.jobs)
     with refusing() as library:
-        results += refused(library, program, given.all, given.jobs)
+        results += refused(library, given.program, given.all, given.jobs)
     failed = sum(bool(it) for it in results)
     print(f"{len(results) - failed} passed, {failed} failed")
     return 1 if failed else 0

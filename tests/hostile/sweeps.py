@@ -1,17 +1,29 @@
-"""The program's tasks, each with every growth and every thread refused in turn, and under falling limits of address space."""
+"""The program's tasks, each with every growth and every thread refused in turn, and under falling limits of address space. Threads
+refused by the system itself: the program as a user of its own who may have few of them, which only root can do. Devices by which one byte
+goes at a time, and each read and each write of which fails in turn. The calls of the library,
+which crates/refused_memory makes and judges, and a program with test cases of its own, crates/car_window."""
+import contextlib
+import itertools
+import os
+import re
+import shutil
+import sys
+import tempfile
 from collections import Counter
 from dataclasses import dataclass, field
 from functools import partial
-from itertools import chain
-from typing import Callable, Iterator, List, Tuple
+from itertools import accumulate, chain
+from types import SimpleNamespace
+from typing import Callable, Iterator, List, Optional, Tuple
 
 from exempt import EACH
-from outcomes import Task, judged
-from refusing import Ran, Refusing, limited
+from refusing import PROGRESS, SERVE, TOP, Ran, Refusing, State, Task, after_bytes, at_byte, judged, limited, pieces_of, plainly, told_of_first
 
-from examples import bytes_of
+from case import untimed
+from examples import bytes_at, bytes_of
 from rows import text
-from sizes import many_behaviours
+from sizes import PASSED, many_behaviours, padded_script
+from texts import MOST_BYTES_OF_A_LIST, MOST_BYTES_OF_A_SCRIPT
 
 # The forms of `run`: each can be written live but the JUnit report.
 LIVE_FORMS: Tuple[Tuple[str, ...], ...] = ((), ("--csv",), ("--history",), ("--evidence",))
@@ -196,3 +208,203 @@ def jobs(refusing: Refusing, program: str, is_whole: bool) -> List[Callable[[], 
             is_each = not behind and ((task.name, task.words) in WHOLE or any(map(task.has, EACH)))
             found.append(partial(sweep, refusing, program, task, what, behind, 1 if is_whole or is_each else stride))
     return [*found, partial(room_before_the_first, refusing, program), *(partial(falling, program, task, is_whole) for task in large_tasks())]
+
+
+# The users are numbers that no account is likely to have, and others for each call of these tests.
+USERS = itertools.count(20_000 + os.getpid() * 131 % 20_000)
+
+
+def few_threads(program: str, task: Task, behaviours: int, stride: int) -> Sweep:
+    """Runs a task with few threads and with as many as it wants."""
+    done = Sweep(f"{' '.join(task.words)} < {task.name}, few threads")
+    ample = plainly([program, *task.words], task.given)
+    for most in numbers(behaviours + 3, stride):
+        ran = plainly(["prlimit", f"--nproc={most}:{most}", program, *task.words], task.given, next(USERS))
+        done.add(task, ample, ran, f"{most} threads")
+        if b"no memory" in ran.output + ran.errors:
+            done.faults.append(f"{most} threads: memory is told of, and there is enough")
+    return done
+
+
+def jobs_of_limits(program: str, is_whole: bool) -> List[Callable[[], Sweep]]:
+    """All tests, of the examples and of test cases of many behaviours; in the gate every so manyth limit of the large ones."""
+    found = [(task, 8, 1) for name in SCRIPTS for task in runs(name)]
+    for behaviours, stride in ((64, 9), (256, 60)):
+        found += [(task, behaviours, 1 if is_whole else stride)
+                  for task in with_input(f"{behaviours}_behaviours", many_behaviours(behaviours), "run --csv", "run --live --csv")]
+    return [partial(few_threads, program, *it) for it in found]
+
+
+def why_not() -> str:
+    """Why no user can be refused threads, or nothing."""
+    if os.geteuid() != 0:
+        return "they want root, who can be another user"
+    if sys.version_info < (3, 9):
+        return "they want python3 of version 3.9 or later, which can run a program as another user"
+    return "" if shutil.which("prlimit") else "there is no prlimit"
+
+
+@contextlib.contextmanager
+def for_each_user(program: str) -> Iterator[Optional[str]]:
+    """A copy of the program that each user may run, or none if that cannot be had."""
+    if why_not():
+        yield None
+        return
+    with tempfile.TemporaryDirectory(prefix="limited-users-") as folder:
+        os.chmod(folder, 0o755)
+        copied = shutil.copyfile(program, os.path.join(folder, "ttrun"))
+        os.chmod(copied, 0o755)
+        yield copied
+
+
+READ, WRITE, TOO_LONG = (f"ttrun: {it}\n".encode() for it in ("read fault", "write fault", "input too long"))
+# Histories of these scripts may be others at each run.
+SIDE_BY_SIDE = ("restart", "workers", "supervisor", "pumps")
+
+
+def told_of(task: Task, ample: Ran, written: int) -> bytes:
+    """What is printed about test cases where that many bytes are out: live, of those up to the one that is not out whole, otherwise of all. What
+    `report` prints comes after its output."""
+    if task.words[0] == "report":
+        return b""
+    if not task.has(PROGRESS) or not task.has("--live"):
+        return ample.errors
+    ends = accumulate(map(len, pieces_of(task, ample.output)))
+    ended = sum(it <= written for it in ends) + 1
+    return b"".join(told_of_first(ample.errors, ended, ended))
+
+
+def is_same(ran: Ran, wanted: Ran) -> bool:
+    """Whether both wrote, printed and ended the same, apart from the times of test cases."""
+    return (ran.output, untimed(ran.errors), ran.status) == (wanted.output, untimed(wanted.errors), wanted.status)
+
+
+def wanted_of(task: Task, ample: Ran, what: str, number: int) -> Ran:
+    """What must come if the read or write of this number fails, counted from 1. A service answers as it reads."""
+    is_served, before = task.words == SERVE, number - 1
+    if number > (ample.reads if what == "read" else ample.writes):
+        return ample
+    if what == "read":
+        state = after_bytes(task.given, before) if is_served else State(0, b"", b"")
+        return Ran(state.output, state.errors + READ, 3)
+    told = at_byte(task.given, before) if is_served else told_of(task, ample, before)
+    return Ran(ample.output[:before], told + WRITE, 3)
+
+
+def failing(refusing: Refusing, program: str, task: Task, what: str, stride: int) -> Sweep:
+    """Has each read or write of a task fail in turn."""
+    words = [program, *task.words]
+    ample = refusing.run(words, task.given, is_byte_by_byte=True)
+    done = Sweep(f"{' '.join(task.words)} < {task.name}, {what} N fails")
+    plain = refusing.run(words, task.given)
+    if not is_same(plain, ample):
+        done.faults.append("byte by byte it answers otherwise")
+    for number in numbers((ample.reads if what == "read" else ample.writes) + 2, stride):
+        ran = refusing.run(words, task.given, f"{what}:{number}", is_byte_by_byte=True)
+        wanted = wanted_of(task, ample, what, number)
+        done.runs += 1
+        done.refused += ran.refused
+        done.met[f"{what}s failed" if wanted is not ample else "right"] += 1
+        if not is_same(ran, wanted):
+            done.faults.append(f"{what}:{number}: status {ran.status}, {ran.errors!r}, {ran.output[-100:]!r}")
+    return done
+
+
+def slow(refusing: Refusing, program: str, task: Task, wanted: Ran) -> Sweep:
+    """A long input, byte by byte."""
+    done = Sweep(f"{' '.join(task.words)} < {task.name}, byte by byte", runs=1)
+    ran = refusing.run([program, *task.words], task.given, is_byte_by_byte=True)
+    done.met["long inputs"] += ran.reads > 1_000_000
+    if not is_same(ran, wanted):
+        done.faults.append(f"status {ran.status}, {ran.errors!r}, {ran.output[-100:]!r}")
+    return done
+
+
+def tried_again(refusing: Refusing) -> Sweep:
+    """Has each read and write fail of a program that tries an interrupted one again, and of one that does not: exactly the first is
+    found out."""
+    done, task = Sweep("a program that tries again", runs=4), Task("eight_bytes", ("replay",), b"abcdefg\n")
+    for flags, is_wrong in ((["-DAGAIN"], True), ([], False)):
+        program = refusing.built("again", flags)
+        for what in ("read", "write"):
+            found = failing(refusing, program, task, what, 1).faults
+            if bool(found) != is_wrong:
+                done.faults.append(f"{what}s, {flags}: {found}")
+    return done
+
+
+def jobs_of_devices(refusing: Refusing, program: str, is_whole: bool) -> List[Callable[[], Sweep]]:
+    """All tests; in the gate every so manyth read or write fails."""
+    found: List[Callable[[], Sweep]] = [partial(tried_again, refusing)]
+    # Those that read, each of which has one right output.
+    reading = [it for it in tasks() if it.given and not (it.block and it.name in SIDE_BY_SIDE)]
+    found += [partial(failing, refusing, program, task, what, 1 if is_whole else 37) for task in reading for what in ("read", "write")]
+    script = Task("the_longest_script", ("run", "--csv"), padded_script(MOST_BYTES_OF_A_SCRIPT))
+    longer = Task("a_script_that_goes_on", ("run",), b"\n" * (2 * MOST_BYTES_OF_A_SCRIPT))
+    moves = Task("moves_that_go_on", ("replay",), b"\n" * (2 * MOST_BYTES_OF_A_LIST))
+    refused = Ran(b"", TOO_LONG, 3)
+    return found + [partial(slow, refusing, program, *it) for it in ((script, Ran(PASSED, b"", 0)), (longer, refused), (moves, refused))]
+
+
+FOLDER = os.path.join(TOP, "crates", "refused_memory")
+CALLS = os.path.join(FOLDER, "out", "refused_memory")
+# How many calls of each kind there are, and how many of their growths must be refused at least.
+FLOORS = {"tables": (3, 6), "moves on a table": (38, 8), "room on a table": (3, 3), "checks of a history": (2, 7), "states": (6, 15),
+          "moves on a state": (38, 3), "copies": (40, 9), "readers": (3, 10), "writers": (46, 88), "writers of a part": (2, 5),
+          "forms and summaries": (18, 100), "live writers": (8, 5), "boards": (3, 12), "opened cases": (3, 300), "calls on a pass": (32, 7),
+          "last calls on a pass": (270, 18), "closed cases": (2, 10), "runs and campaigns": (6, 165), "calls that take no memory": (74, 0)}
+COUNTS = re.compile(r"(.*): (\d+) calls, (\d+) refused, (\d+) answered all the same")
+
+
+def too_few(lines: List[str]) -> List[str]:
+    """The kinds of which fewer calls were made, or fewer growths refused, than there must be."""
+    met = {found[1]: tuple(map(int, found.groups()[1:])) for found in map(COUNTS.fullmatch, lines) if found}
+    faults = [f"{name} is not told of" for name in FLOORS if name not in met]
+    return faults + [f"{name}: {calls} calls, {refused} refused and {kept} answered all the same are too few"
+                     for name, (calls, refused, kept) in met.items()
+                     if name not in FLOORS or calls < FLOORS[name][0] or refused + kept < FLOORS[name][1]]
+
+
+def judged_calls(refusing: Refusing) -> Sweep:
+    """Runs the program once; it sweeps all calls."""
+    done = Sweep("calls of the library", runs=1)
+    ran = refusing.run([CALLS], seconds=300)
+    if ran.is_late:
+        done.faults.append("it hangs")
+        return done
+    lines = ran.errors.decode().splitlines()
+    print("\n".join(lines))
+    done.refused = ran.refused
+    done.faults += too_few(lines)
+    if ran.status or ran.output != bytes_at(FOLDER, "stdout"):
+        done.faults.append(f"status {ran.status}, and it prints {ran.output.decode()!r}")
+    return done
+
+
+CAR_WINDOW = os.path.join(TOP, "crates", "car_window", "out", "car_window")
+NAMES = ("closes", "opens_again", "pinches")
+WORDS_OF_CAR_WINDOW = ("", "--csv", "--junit", "--live", "--live --csv", "--progress", "--stop-on pass", "--list --only pinches", "--only pinches --only closes",
+         "--shard 2/2 --csv", "--only nowhere", "--stop-on maybe", "--csv --junit", "--frobnicate", "--help", "--version")
+
+
+@dataclass
+class CarWindowTask(Task):
+    """Words for the program, which has no input."""
+
+    @property
+    def is_run(self) -> bool:
+        return not self.has("--list")
+
+    def every_case(self) -> List[SimpleNamespace]:
+        """Its test cases, by their names."""
+        return [SimpleNamespace(name=it) for it in NAMES]
+
+
+def car_window_jobs(refusing: Refusing, is_whole: bool) -> List[Callable[[], Sweep]]:
+    """The sweeps; each growth, and in the gate of those from one on every so manyth."""
+    found: List[Callable[[], Sweep]] = []
+    for line in WORDS_OF_CAR_WINDOW:
+        task = CarWindowTask("car_window", tuple(line.split()))
+        for what, behind, stride in (("growth", "", 1), ("growth", "..", 29), ("thread", "", 1), ("thread", "..", 1)):
+            found.append(partial(sweep, refusing, CAR_WINDOW, task, what, behind, 1 if is_whole else stride))
+    return found

@@ -10,6 +10,8 @@ from typing import Any, Dict, Iterator, List, Tuple
 
 from lists import TOP, Answer, Mutant, Outcome, Unplanted
 
+from harness import bytes_of, copy_checkout, write
+
 
 def link(path: str, into: str) -> None:
     """Links a file that was built, if that can be done, so that nothing is proved twice."""
@@ -22,13 +24,9 @@ def link(path: str, into: str) -> None:
 @contextlib.contextmanager
 def copy_of_checkout(has_built: bool = False) -> Iterator[str]:
     """A copy of the files that are the repository's own, with what was built of its crates if that is wanted; it is taken away at the end."""
-    words = ["git", "ls-files", "-co", "--exclude-standard"]
     with tempfile.TemporaryDirectory(prefix="filskeam-mutants-") as room:
         copy = os.path.join(room, "copy")
-        for name in subprocess.run(words, cwd=TOP, stdout=subprocess.PIPE, text=True, check=True).stdout.splitlines():
-            if os.path.isfile(os.path.join(TOP, name)):
-                os.makedirs(os.path.dirname(os.path.join(copy, name)), exist_ok=True)
-                shutil.copy2(os.path.join(TOP, name), os.path.join(copy, name))
+        copy_checkout(copy)
         for crate in os.listdir(os.path.join(TOP, "crates")) if has_built else ():
             built = os.path.join(TOP, "crates", crate, "out")
             if os.path.isdir(built):
@@ -37,15 +35,14 @@ def copy_of_checkout(has_built: bool = False) -> Iterator[str]:
         yield copy
 
 
-def write(copy: str, texts: Dict[str, Tuple[str, str]], which: int) -> None:
+def put(copy: str, texts: Dict[str, Tuple[str, str]], which: int) -> None:
     """Writes the files: 0 as they were, 1 with the mutant, which must be Python still if it was."""
     for path, both in texts.items():
         try:
             compile(both[which], path, "exec") if path.endswith(".py") else None
         except SyntaxError as error:
             raise Unplanted(f"it is no Python: {error}") from None
-        with open(os.path.join(copy, path), "w", encoding="utf-8") as file:
-            file.write(both[which])
+        write(os.path.join(copy, path), both[which])
 
 
 @contextlib.contextmanager
@@ -55,21 +52,19 @@ def planted(copy: str, *mutants: Mutant) -> Iterator[None]:
         for it in mutants:
             made = it.planted(copy)
             texts.update({path: (texts.get(path, both)[0], both[1]) for path, both in made.items()})
-            write(copy, made, 1)
+            put(copy, made, 1)
         yield
     finally:
-        write(copy, texts, 0)
+        put(copy, texts, 0)
 
 
 @contextlib.contextmanager
 def kept(path: str) -> Iterator[None]:
-    with open(path, "rb") as file:
-        before = file.read()
+    before = bytes_of(path)
     try:
         yield
     finally:
-        with open(path, "wb") as file:
-            file.write(before)
+        write(path, before)
 
 
 class Copies:

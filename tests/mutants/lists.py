@@ -3,17 +3,21 @@
 A list begins with `below:`, the folder of its files, and `tests:`, the folder of the tests that must fail, which a list of a crate
 does not have. A mutant is its name, what must fail, and its changes. Each is a file, the old text in lines that begin with
 `- `, and the new text in lines that begin with `+ `. The old text is exactly once in its file; without a line of new text
-whole lines are taken out. After `fails:` is the name of a test, without which it is any test of the page's model. In the list
-of a crate it is a crate of tests, or `ttrun` and a part of the names of tests that are run with those that always are. Without
-it the prover must refuse the mutant. A line that begins with `#` is a comment."""
+whole lines are taken out. After `fails:` is the name of a test, as FOLDER/NAME if it is of another folder; without it it is any
+test of the page's model. In the list of a crate it is a crate of tests, or `ttrun` and a part of the names of tests that are run
+with those that always are. Without it the prover must refuse the mutant. A line that begins with `#` is a comment."""
 import os
 import re
+import sys
 from collections import Counter
 from dataclasses import dataclass, field
 from enum import Enum
 from typing import Dict, Iterator, List, Set, Tuple
 
-TOP = os.path.dirname(os.path.dirname(os.path.dirname(os.path.abspath(__file__))))
+sys.path.append(os.path.dirname(os.path.dirname(os.path.abspath(__file__))))
+
+from harness import TOP, text_of
+
 HERE = os.path.join("tests", "mutants")
 WORDS = ("below", "tests", "mutant", "fails", "file")
 
@@ -74,6 +78,12 @@ class Mutant:
         return f"{self.list.name}/{self.name}"
 
     @property
+    def test(self) -> Tuple[str, str]:
+        """The folder and the name of the test that must fail, if the list has tests."""
+        folder, _, name = self.fails.rpartition("/")
+        return (f"tests/{folder}" if folder else self.list.tests), name
+
+    @property
     def is_proved(self) -> bool:
         """Whether the prover must refuse it."""
         return not self.list.tests and not self.fails
@@ -86,9 +96,7 @@ class Mutant:
             if not os.path.isfile(path):
                 raise Unplanted(f"there is no {change.file}")
             if change.file not in texts:
-                with open(path, encoding="utf-8") as file:
-                    text = file.read()
-                texts[change.file] = (text, text)
+                texts[change.file] = (text_of(path),) * 2
             before, text = texts[change.file]
             if text.count(change.old) != 1 or change.old == change.new:
                 raise Unplanted(f"this text is in {change.file} {text.count(change.old)} times, or is not changed: {change.old.strip()}")
@@ -131,12 +139,11 @@ def read_all(top: str = TOP) -> Tuple[List[Mutant], List[str]]:
     mutants, faults = [], []
     for name in sorted(it for it in os.listdir(os.path.join(top, HERE)) if it.endswith(".txt")):
         reader = Reader(name[:-len(".txt")])
-        with open(os.path.join(top, HERE, name), encoding="utf-8") as file:
-            for number, line in enumerate(file.read().split("\n"), 1):
-                try:
-                    reader.take(line)
-                except ValueError:
-                    faults.append(f"{HERE}/{name}:{number}: no list has such a line here: {line}")
+        for number, line in enumerate(text_of(top, HERE, name).split("\n"), 1):
+            try:
+                reader.take(line)
+            except ValueError:
+                faults.append(f"{HERE}/{name}:{number}: no list has such a line here: {line}")
         mutants += reader.mutants
     return mutants, faults
 
@@ -147,14 +154,13 @@ def words_of_tests(top: str, folder: str) -> Set[str]:
     for at, _, names in os.walk(os.path.join(top, folder)):
         for name in names:
             if name.endswith((".py", ".rt", ".cpp")):
-                with open(os.path.join(at, name), encoding="utf-8") as file:
-                    words |= set(re.findall(r"\w+", file.read()))
+                words |= set(re.findall(r"\w+", text_of(at, name)))
     return words
 
 
 def fault_of(mutant: Mutant, top: str, words: Dict[str, Set[str]]) -> str:
     """Why a mutant cannot be planted, or which test is not there; `words` are those of each folder of tests."""
-    folder, test = mutant.list.tests, mutant.fails
+    folder, test = mutant.test
     if folder:
         known = words.setdefault(folder, words_of_tests(top, folder))
         # A number at the end may be that of a round.

@@ -10,6 +10,8 @@ from typing import FrozenSet, Iterator, List, Set, Tuple
 from copies import copy_of_checkout, planted, ran
 from lists import Answer, Mutant, Outcome, Unplanted
 
+from harness import text_of, write
+
 # What `rt must-fail` says of an edit: who refused it, or that nobody did.
 SAID = re.compile(r"must-fail (\w+)/(\w+)\.edit: (.*)")
 # What `rt check` says: that it came to a verdict, or where the text is no source; a goal without an answer, and an answer that is none.
@@ -20,7 +22,7 @@ OPEN = re.compile(r"(?m)^fn \w+::(\S+): .*`search` did not prove (.*)$")
 ANSWER = re.compile(r"(?m)^\./proofs/(\S+)/(?:Answers|Invariants|Proof)\.antt:\d+:\d+: error: (.*)$")
 # An answer that names what a mutant has taken away: that says little of the contract.
 NAMED = re.compile(r"has no field|\(nearest: |is not in scope|has no `|can be named from here|was not admitted|`goal\.[^`]*`: module")
-HEAD = re.compile(r" *(?:pub(?:\(crate\))? )?fn (\w+)")
+HEAD = re.compile(r' *(?:pub(?:\(crate\))? )?(?:extern "C" )?fn (\w+)')
 REFUSED = "refused, as it must be"
 
 
@@ -46,8 +48,7 @@ def functions_in(folder: str, places: List[Tuple[str, str]]) -> Set[str]:
     """The names of the functions that are in these lines of files of the crate in this folder."""
     found = set()
     for file, line in places:
-        with open(os.path.join(folder, file), encoding="utf-8") as source:
-            text = source.read()
+        text = text_of(folder, file)
         found.add(function_at(text, len("".join(text.splitlines(True)[:int(line) - 1]))))
     return found
 
@@ -103,10 +104,8 @@ class Crate:
         for name in os.listdir(place):
             os.remove(os.path.join(place, name))
         for it in mutants:
-            with open(os.path.join(place, f"{it.name}.edit"), "w", encoding="utf-8") as file:
-                for change in it.changes:
-                    path = os.path.relpath(change.file, it.list.below)
-                    file.write(f"file: {path}\nold: {change.minus[0]}\nnew: {change.new}\n")
+            edits = [(os.path.relpath(change.file, it.list.below), change.minus[0], change.new) for change in it.changes]
+            write(os.path.join(place, f"{it.name}.edit"), "".join("file: {}\nold: {}\nnew: {}\n".format(*edit) for edit in edits))
         told = ran(self.rt, ["must-fail", self.name], self.copy) if mutants else ""
         said = {it[2]: it[3] for it in SAID.finditer(told)}
         for it in mutants:

@@ -14,9 +14,7 @@ from lists import TOP, Answer, Mutant, Outcome, Unplanted
 
 sys.path += [os.path.join(TOP, "tests", it) for it in ("program", "serve")]
 
-import chosen_blocks
 import chosen_rows
-import documents_run
 import examples
 import explain
 import progress
@@ -26,6 +24,7 @@ import served_rows
 import sizes
 import words
 from case import Case, Ran, faults_of
+from harness import write
 
 LONGEST = 100_000
 # Of the long tables of tests every that many is run: `rt try` takes about half a second for each.
@@ -37,25 +36,15 @@ PROGRAM = "ttrun"
 SECONDS = "40"
 
 
-def is_plain(case: object) -> bool:
-    """Whether a test is made of nothing but a file and words. What is given to a pipe that stays open may be a file."""
-    return (isinstance(case, Case) and not (case.redirect or case.limit or case.is_broken)
-            and all(isinstance(word, str) and word for word in case.words))
-
-
-def is_served(row: served_rows.Row) -> Case:
-    """The test of a text that `ttrun serve` is given whole."""
-    return Case(row.name, ("serve",), row.given, row.output, row.errors, row.status)
-
-
 def plain_cases(named: Set[str]) -> List[Case]:
     """The tests that a file and words make: all of examples/ and of the sizes, and of the others some, if they are not too long; and
     those with one of these in their names."""
     every: List[Case] = []
-    whole, long = (examples, documents_run, sizes, progress), (rows, scripts, words, explain, chosen_rows, chosen_blocks)
+    whole, long = (examples, sizes, progress), (rows, scripts, words, explain, chosen_rows)
     groups = [(it.cases(), 1) for it in whole] + [(it.cases(), EVERY) for it in long]
-    for group, step in (*groups, (map(is_served, served_rows.rows()), EVERY)):
-        plain = [it for it in group if is_plain(it)]
+    for group, step in (*groups, (served_rows.rows(), EVERY)):
+        # What is given to a pipe that stays open may be a file.
+        plain = [it for it in group if isinstance(it, Case) and it.is_plain and all(it.words)]
         every += [it for at, it in enumerate(plain) if any(word in it.name for word in named) or (at % step == 0 and len(it.given) < LONGEST)]
     return every
 
@@ -63,8 +52,7 @@ def plain_cases(named: Set[str]) -> List[Case]:
 def write_cases(folder: str, cases: List[Case]) -> None:
     for at, case in enumerate(cases):
         for ending, content in (("", case.given), (".args", "".join(f"{it}\n" for it in case.words).encode())):
-            with open(os.path.join(folder, f"c{at}{ending}"), "wb") as file:
-                file.write(content)
+            write(os.path.join(folder, f"c{at}{ending}"), content)
 
 
 def failing(cases: List[Case], printed: bytes, said: bytes) -> Tuple[int, List[str]]:

@@ -14,9 +14,9 @@ SECONDS = 300
 BROKEN = re.compile(r"(?!Fault|NoEvidence|ParseError|AssertionError)[A-Z]\w*: ")
 MAY_BREAK = ("tests/documents", "tests/page", "tests/play")
 # What the tests of a folder get: the built program, and that they run one by one.
-WITH_PROGRAM = ("tests/titan", "tests/documents", "tests/page", "tests/play")
+WITH_PROGRAM = ("tests/titan", "tests/documents", "tests/page", "tests/play", "tests/embed")
 WORDS: Dict[str, List[str]] = {"tests/python": ["--jobs", "1"], "tests/titan": ["--jobs", "1"], "tests/play": ["--in", "Chromium"],
-                              "tests/page": ["--model"]}
+                              "tests/page": ["--model"], "tests/embed": ["--library", os.path.join(TOP, "crates", "filskeam", "out", "library")]}
 # What is made of its sources again for the tests of the page to try.
 PAGE = os.path.join("page", "play.html")
 # Variables by which a test takes other sources than those of the copy.
@@ -61,7 +61,7 @@ class Judge:
 
     @staticmethod
     def tests_of(mutant: Mutant) -> Tuple[str, str]:
-        return mutant.list.tests, mutant.fails
+        return mutant.test
 
     def without(self, copy: str, tests: Tuple[str, str]) -> Optional[Answer]:
         last, why = self.run_test(copy, *tests)

@@ -33,7 +33,7 @@ function askedIn(game) {
 }
 // The table of files, each a list of names with verdicts: what is wanted of each row and of each order, by hand, and what is there.
 function nightsOf(given) {
-  const nights = JSON.parse(given), ranks = ["error", "unfinished", "missing", "fail", "inconc", "none", "pass"];
+  const nights = JSON.parse(given), ranks = ["error", "unfinished", "fail", "inconc", "missing", "none", "pass"];
   const block = ([name, end]) => `history 2 ${name} 1\n` + (end === "error" ? "0 stopcase -> ok\n" : end === "unfinished" ? "" :
     `0 setverdict ${end} -> ok\n0 finish -> ok\n`) + `end ${end === "unfinished" ? "none" : end}\n`;
   const files = nights.map(night => readHistories(night.map(block).join("")));

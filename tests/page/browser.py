@@ -60,10 +60,6 @@ class Browser(AbstractContextManager):
         found = self.js(code)
         same(list(wanted) if isinstance(wanted, tuple) else wanted, found, f"{code} after {keys}" if keys else code)
 
-    def with_control(self, key: str) -> None:
-        self.press(key, with_control=True)
-        self.settle()
-
     def type(self, text: str) -> None:
         """Puts a text in where the cursor is, at once."""
         self.js(f"document.execCommand('insertText', false, {json.dumps(text)})")

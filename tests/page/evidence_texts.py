@@ -5,9 +5,7 @@ from typing import Dict, List, NamedTuple, Optional, Tuple
 import histories
 from histories import PIECES, deciding
 
-from evidence import opened
-from table import VERDICTS
-from texts import lines_of, read_entry, read_header
+from texts import Block, read_blocks
 
 
 class Line(NamedTuple):
@@ -23,11 +21,14 @@ class Line(NamedTuple):
 class Case:
     """A block of either kind: its lines without the namings, and the names of behaviours by their runs."""
 
-    def __init__(self, first: str) -> None:
-        self.header, self.evidence, self.verdict = read_header(first), opened(first), ""
-        self.lines: List[Line] = []
-        self.names: Dict[int, str] = {}
-        self.name = self.evidence.name if self.evidence else self.header[1] if self.header else ""
+    def __init__(self, block: Block) -> None:
+        self.name, self.verdict = block.name, block.verdict
+        self.names = {it.run: it.text for _, it in block.said if not it.mark}
+        said = [((at, 0), it.run, it.mark, it.text) for at, it in block.said]
+        marked = sorted([*said, *(((at, 1), it.caller, "", it.text()) for at, it in enumerate(block.entries))], key=lambda it: it[0])
+        numbered = enumerate(marked, block.last_line - len(marked))
+        self.lines = [Line(number, f"{run} {mark} {text}" if mark else text, run, mark, text if mark else "")
+                      for number, ((_, is_entry), run, mark, text) in numbered if is_entry or mark]
 
     def entries(self) -> List[str]:
         return [it.text for it in self.lines if not it.said]
@@ -43,41 +44,11 @@ class Case:
                           for lines in (self.lines[:index][::-1], self.lines[index + 1:]))
         return {"index": index, "line": self.lines[index].number, "behaviour": self.names.get(run), "before": before, "behind": behind}
 
-    def take(self, number: int, text: str) -> bool:
-        """Takes a line, if it may be there."""
-        if self.evidence is None:
-            entry = read_entry(number, text, self.header[0])
-            if entry is not None:
-                self.lines.append(Line(number, text, entry.caller, "", ""))
-            return entry is not None
-        before = len(self.evidence.names)
-        if not self.evidence.take(text):
-            return False
-        if len(self.evidence.names) > before:
-            self.names.update([self.evidence.names[-1]])
-        else:
-            run, mark, said = text.split(" ", 2) if text.split(" ")[1] in "#!" else (text.split(" ")[0], "", "")
-            self.lines.append(Line(number, text, int(run), mark, said))
-        return True
-
 
 def read(text: bytes) -> Tuple[List[Case], Optional[List[object]]]:
     """The whole blocks of a text, and line and kind of its first fault."""
-    cases: List[Case] = []
-    inside: Optional[Case] = None
-    lines = lines_of(text)
-    for number, line in enumerate(lines, 1):
-        if inside is None:
-            inside = Case(line)
-            if inside.header is None and inside.evidence is None:
-                return cases, [number, "bad first line"]
-        elif line.startswith("end ") and line[4:] in VERDICTS:
-            inside.verdict = line[4:]
-            cases.append(inside)
-            inside = None
-        elif not inside.take(number, line):
-            return cases, [number, "bad entry"]
-    return cases, [len(lines) + 1, "text ends too early"] if inside is not None or not lines else None
+    blocks, fault = read_blocks(text)
+    return [Case(it) for it in blocks], fault and list(fault)
 
 
 # What may be hard to show or to copy, or may be taken for something else than a remark.

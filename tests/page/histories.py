@@ -11,16 +11,13 @@ sys.path += [TESTS, *(os.path.join(TESTS, it) for it in ("serve", "program"))]
 
 from harness import TOP, text_of
 from random_moves import MoveList
-from table import VERDICTS, Table
-from texts import Entry, read_entry
+from table import FAULTS, MOST_COMPONENTS, VERDICTS, Table
+from texts import MOST_BYTES_OF_A_HISTORY as MOST_BYTES, Entry, read_entry
 
 # The history texts of examples/, by their names.
 EXAMPLES = {it[:-8]: text_of("examples", it) for it in sorted(os.listdir(os.path.join(TOP, "examples"))) if it.endswith(".history")}
 # Cases of every kind of picture, legal ones and not; cases of evidence, each legal, and a history after them.
 KINDS, KINDS_OF_EVIDENCE = text_of("tests/page/kinds.history"), text_of("tests/page/kinds.evidence")
-MOST_BYTES = 16_777_216
-MOST_COMPONENTS = 1000
-ERRORS = ("no-component", "not-main", "start-main", "already-running", "not-startable", "no-behaviour", "too-many", "stuck")
 STATUS = ("running", "alive", "done", "killed", "wait done", "wait killed", "wake done", "wake killed")
 VERBS = ("create", "create", "start", "start", "start", "stop", "kill", "stopcase", "setverdict", "setverdict", "getverdict", "finish")
 
@@ -39,10 +36,10 @@ def random_entry(rng: random.Random, form: int, is_wild: bool) -> str:
     }.get(verb, lambda: f"{verb} {rng.choice([some(), 'any', 'all'])}" if verb in STATUS else verb)()
     fitting = {"create": [f"made {some()}"], "getverdict": VERDICTS}.get(
         verb, ["true", "false"] if verb in STATUS[:4] else ["matched", "parked"] if verb in STATUS else ["ok"])
-    every = ["made 1", "ok", "true", "false", *VERDICTS, "matched", "parked", "ended", "error " + rng.choice(ERRORS)]
+    every = ["made 1", "ok", "true", "false", *VERDICTS, "matched", "parked", "ended", "error " + rng.choice(FAULTS)]
     rare = rng.random()
     reply = rng.choice(every) if is_wild and rare < 0.2 else "ended" if rare < 0.06 else \
-        "error " + rng.choice(ERRORS) if rare < 0.08 else rng.choice(fitting)
+        "error " + rng.choice(FAULTS) if rare < 0.08 else rng.choice(fitting)
     return f"{run} {operation} -> {reply}"
 
 

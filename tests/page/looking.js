@@ -1,9 +1,9 @@
 // What the tests ask a page: code that is evaluated in each page that a test opens.
 var looking = (() => {
   const textOf = one => one.textContent;
-  // The table of test cases; and of the entries of a chart their titles, and the chosen one.
+  // The table of test cases; and of the entries of a chart the first lines of their titles, and the chosen one.
   const rows = () => $$(".cases tbody tr").map(row => [...row.cells].map(cell => cell.innerText.replace(/\s+/g, " ").trim()));
-  const titles = () => $$(".rows title").map(textOf), chosen = () => $(".state code").textContent;
+  const titles = () => $$(".rows title").map(title => textOf(title).split("\n")[0]), chosen = () => $(".state code").textContent;
   // What the panel says of each component: who it is, what it is doing and waits for, and its local verdict.
   const panel = () => $$(".state tbody tr").map(row => [...row.cells].flatMap(cell => cell.innerText.trim().split(/\n+/)));
   // The texts of the chart that are not within its width, or lie over the numbers of lines.
@@ -44,6 +44,17 @@ var looking = (() => {
       if (one.group !== other.group && isLarge(common(one.seen, other.seen))) pairs.push(`${one.what} / ${other.what}`);
     }));
     return [things.length, pairs.slice(0, 9)];
+  }
+  // How often the head of each component is whole on paper.
+  function onPaper() {
+    const found = new Map();
+    dispatchEvent(new Event("beforeprint"));
+    for (const head of $$("#paper [data-lane]")) {
+      const { x, width } = head.ownerSVGElement.viewBox.baseVal, box = $("rect", head), from = box.x.baseVal.value, { lane } = head.dataset;
+      if (x <= from && from + box.width.baseVal.value <= x + width) found.set(lane, (found.get(lane) ?? 0) + 1);
+    }
+    dispatchEvent(new Event("afterprint"));
+    return [...found.values()];
   }
   // The least contrast of what is written, and where it is.
   function contrast() {
@@ -110,5 +121,5 @@ var looking = (() => {
     Object.defineProperty(event, "clipboardData", { value: held });
     $("#text").dispatchEvent(event);
   }
-  return { overlaps, rows, titles, chosen, panel, outside, contrast, walk, chips, again, column, drop, paste };
+  return { overlaps, onPaper, rows, titles, chosen, panel, outside, contrast, walk, chips, again, column, drop, paste };
 })();

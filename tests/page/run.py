@@ -19,7 +19,6 @@ from typing import Callable, Iterator
 sys.dont_write_bytecode = True
 
 import model
-import model_evidence
 import shown
 from browser import Browser, Chromium
 from harness import TOP, Answer, Tests, answers_of, chosen, hold, same, status_of, text_of, words_of
@@ -39,13 +38,11 @@ def the_sources_are_small_and_plain(_: Context) -> str:
 
 
 def each_import_names_what_is_there(_: Context) -> str:
-    count = 0
-    for name in [it for it in os.listdir(os.path.join(TOP, "page")) if it.endswith(".mjs")]:
-        text = text_of("page", name)
+    count, pages = 0, {it: text_of("page", it) for it in os.listdir(os.path.join(TOP, "page")) if it.endswith(".mjs")}
+    for name, text in pages.items():
         for names, other in re.findall(r'(?m)^import \{ ([^}]*) \} from "\./(\w+\.mjs)";$', text):
-            there = re.findall(r"(?m)^export (?:async )?(?:const|class|function) (.*)", text_of("page", other))
             for word in names.split(", "):
-                hold(any(re.search(rf"(?:^|, ){re.escape(word)}(?![\w$])", it) for it in there), f"{name}: {other} has no {word}")
+                hold(re.search(rf"(?m)^export .*[ ,]{re.escape(word)}(?![\w$])", pages[other]), f"{name}: {other} has no {word}")
                 hold(len(re.findall(rf"(?<![\w$])(?<!\w\.){re.escape(word)}(?![\w$])", text)) >= 2, f"{name} does not use {word}")
                 count += 1
     hold(count >= 60, count)
@@ -64,7 +61,7 @@ def the_page_loads_nothing(_: Context) -> str:
 SOURCES = (the_sources_are_small_and_plain, each_import_names_what_is_there, the_page_loads_nothing)
 # The tests of the sources, of the model and of what is shown, and the fewest of each.
 GROUPS = [({it.__name__: it for it in tests}, fewest) for tests, fewest in (
-    (SOURCES, 3), ((*model.TESTS, *model_evidence.TESTS), 12), (shown.TESTS, 14))]
+    (SOURCES, 3), (model.TESTS, 11), (shown.TESTS, 14))]
 
 
 def in_browser(test: Callable[[Context, Browser], str], context: Context, browser: Browser) -> str:

@@ -15,10 +15,9 @@ from typing import Dict, List
 from browser import Browser
 from evidence_texts import Case, evidence_of, read
 from harness import TOP, Skipped, call, hold, same, wait_for, write
-from histories import (ERRORS, EXAMPLES, KINDS, KINDS_OF_EVIDENCE, MOST_BYTES, MOST_COMPONENTS, campaign, fullest, legal_case, random_block, states,
+from histories import (EXAMPLES, KINDS, KINDS_OF_EVIDENCE, MOST_BYTES, MOST_COMPONENTS, campaign, fullest, legal_case, random_block, random_legal, states,
                        tables, widest_case)
-from model import STATEMENT, Context, blocks_of, checked
-from model_evidence import legal_evidence
+from model import STATEMENT, Context, blocks_of, checked, legal_evidence
 from table import VERDICTS
 
 sys.path.append(os.path.join(TOP, "page"))
@@ -54,7 +53,7 @@ def csv_of(context: Context, text: str) -> List[Dict[str, str]]:
 # Whether a remark of kinds.evidence was taken as markup.
 MARKUP = "[$$('img').length, $$('b').some(one => one.textContent === 'ready')]"
 # The order of the table.
-STATUSES = ("error", "unfinished", "missing", "fail", "inconc", "none", "pass")
+STATUSES = ("error", "unfinished", "fail", "inconc", "missing", "none", "pass")
 
 
 def reason(case: Case) -> str:
@@ -132,16 +131,6 @@ def each_state(browser: Browser, block: str) -> int:
     return len(found)
 
 
-def it_takes_any_text_without_less(context: Context, browser: Browser) -> str:
-    """Nothing is decoded in the element of the histories, and nothing but `<` means anything there."""
-    text = "\n\n" + "".join(map(chr, range(32, 127))).replace("<", "") + "\n--> &lt; &amp; &#60; ]]> /script> !-- \n -- >\n\n"
-    browser.open(page_of(context, "any", text))
-    browser.holds(text, "$('#history').textContent")
-    hold("line 1: bad first line" in browser.js("$('.fault').textContent"), "no fault is told")
-    browser.holds(0, "$$('.cases tbody tr').length")
-    return f"{len(text)} bytes"
-
-
 def it_shows_the_examples(context: Context, browser: Browser) -> str:
     """Every case of examples/, in each look, and the states at each of its entries."""
     text, count = "".join(EXAMPLES.values()), 0
@@ -181,14 +170,12 @@ def it_shows_large_histories(context: Context, browser: Browser) -> str:
     return "; ".join(told)
 
 
-def to_case(browser: Browser, name: str) -> None:
-    browser.go(f"#/{name}")
-
-
 def it_shows_the_kinds(context: Context, browser: Browser) -> str:
     """Cases that are not legal, or not over: the table, filters, the search, the way there and back by keys."""
     browser.open(page_of_kinds(context))
-    browser.holds(["error 5", "unfinished 1", "fail 3", "inconc 2", "none 2", "pass 5"], "$$('[data-verdict]').map(one => one.textContent)")
+    browser.holds([f"{it} chip v-{it.split()[0].replace('unfinished', 'error')}" for it in ("error 5", "unfinished 1", "fail 3", "inconc 2", "none 2", "pass 5")],
+                  "$$('[data-verdict]').map(one => `${one.textContent} ${one.className}`)")
+    browser.holds(["Verdict", "Test case", "Components", "Entries"], "$$('th button').map(one => one.textContent)")
     rows = shown_rows(browser)
     by_name = {row[1]: row for row in rows}
     same(["inconc", "t_supervised", "4", "16", "run 2 on 3: 2 setverdict inconc -> ok line 13"], by_name["t_supervised"])
@@ -227,7 +214,7 @@ def each_filter(browser: Browser, rows: List[List[str]]) -> None:
 
 def it_shows_one_case(context: Context, browser: Browser) -> str:
     """What is chosen, the states, keys, the search, folding, what is hidden, only one component."""
-    browser.open(page_of_kinds(context)), to_case(browser, "t_kinds")
+    browser.open(page_of_kinds(context)), browser.go("#/t_kinds")
     browser.holds("168", "$('.on-why .gutter').textContent")
     browser.holds("1 setverdict pass -> ok", "looking.chosen()", "Home", *"jjjjj")
     browser.holds([["mtc", "running 0", "none"], ["1 a_component_with_a_long_name_abc", "running 1", "pass"], ["2 end", "running 2", "none"],
@@ -252,18 +239,18 @@ def it_shows_one_case(context: Context, browser: Browser) -> str:
     browser.js("$('.heads [data-lane=\"3\"]').dispatchEvent(new MouseEvent('click', { bubbles: true }))"), browser.settle()
     browser.holds(["", True], "[$('#focus').value, app.pane.chart.rows.length > 20]")
     # an entry that is not shown changes the life lines between two rows, and not in one that says something else
-    to_case(browser, "t_pumps"), browser.js("focusOn(2)"), browser.settle()
+    browser.go("#/t_pumps"), browser.js("focusOn(2)"), browser.settle()
     browser.holds(["30", "36", "37", "38", "39", "40", "41", "49"], "$$('.rows .gutter').map(one => one.textContent)")
     runs = browser.js("$$('.rows .run').map(one => ['x', 'y', 'height'].map(name => Number(one.getAttribute(name))))")
     x = [browser.js(f"app.pane.chart.xs.get({it})") - 5 for it in (0, 1, 2)]
     same(sorted([[x[0], 0, 7 * 28 + 20], [x[1], 28, 1], [x[2], 28 + 20, 4 * 28], [x[1], 7 * 28, 1]]), sorted(runs))
     for name in ("t_supervised", "t_stopcase", "t_open", "t_wrong", "t_odd"):
-        to_case(browser, name)
+        browser.go(f"#/{name}")
         lines = browser.js("app.pane.chart.game.list.map(entry => entry.line)")
         browser.holds(lines, "$$('.rows .gutter').map(one => Number(one.textContent))")
         browser.holds([len(lines), 1], "['.rows[role=listbox] [role=option] title', '[role=option][aria-selected=true]'].map(one => $$(one).length)")
     # the entry that made the verdict is shown, whatever is not
-    to_case(browser, "t_supervised"), browser.js("focusOn(1)")
+    browser.go("#/t_supervised"), browser.js("focusOn(1)")
     shown = "[game.why.index, game.overAt].map(at => chart.rows.some(row => row.first <= at && at <= row.last))"
     browser.holds([True, True], f"(({{ chart, chart: {{ game }} }}) => {shown})(app.pane)")
     said = "evidence 1 t 2\n0 # begun\n0 getverdict -> none\n0 running 9 -> error no-component\n0 # ended\n0 finish -> ended\nend error\n"
@@ -273,12 +260,28 @@ def it_shows_one_case(context: Context, browser: Browser) -> str:
     browser.holds(["0 running 9 -> error no-component"], "app.pane.chart.rows.map(row => app.pane.chart.game.list[row.first].text)")
     for option in ("questions", "ended", "remarks"):
         browser.click(f"[data-option={option}]")
-    # what each dynamic error means
-    errors = [f"0 start 1 {at} -> error {it}\n" for at, it in [*((2, it) for it in ERRORS), (1, "no-behaviour")]]
-    browser.open(page_of(context, "errors", f"history 2 t 9\n0 create -> made 1\n0 start 1 1 -> ok\n{''.join(errors)}end error\n")), browser.go("#/t")
-    told = browser.js("app.pane.chart.rows.map((_, at) => (choose(app.pane, at), $('.state').innerText.match(/Dynamic error: (.*)\\./)?.[1]))")
-    hold(told[:2] == [None] * 2 and len({*told[2:]} - {None}) == 9 and "run 1 was started before" in told[-1] and "no such run" in told[7], told)
     return f"{rows} rows"
+
+
+# A behaviour that is started again, and a component too many.
+ERRONEOUS = ("evidence 1 t_again 3\n0 create alive named pump -> made 1\nbehaviour 2 fill\n0 start 1 2 -> ok\n2 finish -> ok\n"
+             "0 start 1 2 0 1 -> error no-behaviour\nend error\n"
+             f"history 2 t_crowd 1\n{''.join(f'0 create -> made {it}{chr(10)}' for it in range(1, MOST_COMPONENTS))}0 create -> error too-many\nend error\n")
+
+
+def it_says_what_errors_mean(context: Context, browser: Browser) -> str:
+    """The words of the program, as a title in the table and the chart, and in the panel."""
+    text = ERRONEOUS + "".join(random_legal(random.Random(it), f"t_{it}") for it in range(250))
+    summary = call([context.program, "report", "--summary"], text).output
+    wanted = dict(re.findall(r"(?m)^(\w+): error\n  run .* -> error [\w-]+: (.*)$", summary))
+    browser.open(page_of(context, "errors", text))
+    same(wanted, browser.js("Object.fromEntries($$('.cases tbody tr').map(row => [$('a', row).innerText, $('code', row)?.title]).filter(it => it[1]))"))
+    for meaning, name in {meaning: name for name, meaning in wanted.items()}.items():
+        browser.js(f"history.replaceState(null, '', '#/{name}'), app.show()")
+        browser.holds([meaning, True], f"[$('.on-why title').textContent.split('\\n')[1], $('.state').innerText.includes('Dynamic error: {meaning}.')]")
+    browser.go("#/t_again"), hold("start 1 pump run 2 fill with mtc 1 pump \u2192 error" in browser.js("$('.on-why').textContent"), "it has no names")
+    same(9, len(set(wanted.values())), summary)
+    return f"{len(wanted)} errors"
 
 
 def it_draws_what_no_table_makes(context: Context, browser: Browser) -> str:
@@ -308,6 +311,7 @@ def it_gives_pictures_and_mermaid(context: Context, browser: Browser) -> str:
         parts = xml.dom.minidom.parseString(picture)
         titles, words = (["".join(it.data for it in element.childNodes) for element in parts.getElementsByTagName(tag)] for tag in ("title", "text"))
         same(["svg", len(case.lines)], [parts.documentElement.tagName, picture.count("data-row=")], case.name)
+        titles = [it.split("\n")[0] for it in titles]
         hold(all(f"line {it.number}: {it.text}" in titles for it in case.lines), titles)
         browser.click("#mermaid")
         lines = browser.js("$('dialog textarea').value").splitlines()
@@ -370,19 +374,24 @@ def it_opens_files(context: Context, browser: Browser) -> str:
     less = worse.replace(worse[worse.index(b"history 2 t_spare"):worse.index(b"history 2 t_same")], b"")
     open_files(context, browser, {"monday.history": good, "tuesday.history": worse, "friday.history": less})
     browser.holds(["Test case", *(f"{it}.history" for it in ("monday", "tuesday", "friday"))], "$$('th button').map(one => one.textContent)")
-    rows = [["t_spare", "none", "none", "missing"], ["t_pumps 2 verdicts", "pass", "fail", "fail"], ["t_same", "none", "none", "none"]]
+    rows = [["t_pumps 2 verdicts", "pass", "fail", "fail"], ["t_spare", "none", "none", "missing"], ["t_same", "none", "none", "none"]]
     browser.holds(rows[:2], "looking.rows().map(cells => cells.slice(0, -1))")
-    browser.holds("2 times run 2 on 2 outlet_pump: 2 setverdict fail -> ok line 12", "looking.rows()[1].at(-1)")
+    browser.holds(["fail 1", "missing 1", "none 2", "pass 1", "only what changed: 2 of 3"], "$$('[data-verdict], .bar label').map(one => one.innerText.trim())")
+    browser.click("[data-verdict=none]"), browser.holds(["t_spare"], "$$('.cases .name a').map(one => one.textContent)"), browser.click("[data-verdict=none]")
+    browser.holds(["of this name: pass 1, fail 2", 3], "[$('.mark').title, $$('th div').filter(one => /^20..-..-.. ..:..$/.test(one.innerText)).length]")
+    browser.holds("2 times run 2 on 2 outlet_pump: 2 setverdict fail -> ok line 12", "looking.rows()[0].at(-1)")
     hold(re.search(r"monday.history of 20\d\d-\d\d-\d\d \d\d:\d\d, .*ttrun \d+\.", browser.js("document.title")), browser.js("document.title"))
     browser.click("#changed"), browser.holds(rows, "looking.rows().map(cells => cells.slice(0, -1))")
-    for column, order in (("0", [0, 2, 1]), ("0", [1, 0, 2]), ("2", [0, 1, 2]), ("name", [1, 2, 0])):
+    for column, order in (("0", [1, 2, 0]), ("0", [0, 1, 2]), ("2", [0, 1, 2]), ("name", [0, 2, 1])):
         browser.click(f"[data-sort='{column}'] button")
         browser.holds([rows[at][0].split()[0] for at in order], "$$('.cases .name a').map(one => one.textContent)")
     browser.js("document.activeElement.blur()"), browser.holds("#/t_spare/t_spare.2", "location.hash", "j", "j", "Enter")
     browser.go("#"), browser.click("[data-row='0']"), browser.holds("#/t_pumps/t_pumps.3", "location.hash")
     hold("alike for 10 entries" in browser.js("$('.bar').textContent"), "it does not say where they part")
-    open_files(context, browser, {f"{it}.history": good for it in range(5)})
-    browser.holds([0, "why", "only what changed: 0 of 3"], "[$$('.cases tbody tr').length, $$('th')[1].className, $('.bar label').innerText.trim()]")
+    browser.holds("run 2: call 2: setverdict pass -> ok | setverdict fail -> ok", "$('.partings').innerText")
+    open_files(context, browser, {f"{it}.history": worse.replace(b"outlet_pump", b"pump_%d" % it) for it in range(5)})
+    browser.holds([0, "why"], "[$$('.cases tbody tr').length, $$('th')[1].className]"), browser.click("#changed")
+    browser.holds("".join(f"{it}.history run 2 on 2 pump_{it}: 2 setverdict fail -> ok line 12" for it in (2, 3, 4)), "looking.rows()[0][1].replaceAll('12 ', '12')")
     browser.open(page_of(context, "viewer", ""))
     browser.drop({"dropped <b>.history": EXAMPLES["workers"].encode()}), browser.until("app.cases.length > 1")
     browser.holds("dropped <b>.history: 2", "$('#source').textContent.replace(/ of .*:/, ':').slice(0, 22)")
@@ -392,7 +401,11 @@ def it_opens_files(context: Context, browser: Browser) -> str:
 
 
 def it_tells_faults(context: Context, browser: Browser) -> str:
-    """The fault of a refused file is shown as the program prints it, and nothing of the file from there on. Each byte is as it is."""
+    """The fault of a refused file is shown as the program prints it, and nothing of the file from there on. Each byte is as it is, and
+    nothing but `<` means anything in the element of the histories."""
+    any_text = "\n\n" + "".join(map(chr, range(32, 127))).replace("<", "") + "\n--> &lt; &amp; &#60; ]]> /script> !-- \n -- >\n\n"
+    browser.open(page_of(context, "any", any_text)), browser.holds([any_text, 0], "[$('#history').textContent, $$('.cases tbody tr').length]")
+    hold("line 1: bad first line" in browser.js("$('.fault').textContent"), "no fault is told")
     good, said = EXAMPLES["pumps"].encode(), KINDS_OF_EVIDENCE.encode()
     texts = [good[:200], b"", good + b"history 2 t 1\n", b"\xef\xbb\xbf" + good, good.replace(b"\n", b"\r\n"), good + b"<img src=x onerror=alert(1)>\n", b"\x00\xff",
              b"x" * (MOST_BYTES + 1), good[:-1] + b"\xff\n", said, said.replace(b"<b>", b"\x8bb>"), said.replace(b"<b>", "\u2039b>".encode()),
@@ -432,6 +445,11 @@ def it_prints(context: Context, browser: Browser) -> str:
     same([f"t_{it}" for it in (77, 227, 377, 527, 677)], re.findall(r"fail (t_\d+)", text))
     same({f"t_{it}" for it in range(800)}, set(re.findall(r"t_\d+", text)))
     hold(re.match(rf"{version} campaign of 20\d\d-.*: 800 test cases This page .* fail 5 pass 795 ", pages[0]), pages[0][:300])
+    open_files(context, browser, {f"{it}.history": (bad if it == 3 else good).encode() for it in range(5)})
+    text = printed(context, browser)[0]
+    hold(all(f"{it}.history {'fail' if it == 3 else 'pass'}" in text for it in range(5)), text)
+    browser.open(page_of(context, "two", good + bad)), browser.go("#/t_NAME/t_NAME.2")
+    hold("run 2: call 3: setverdict pass -> ok | setverdict fail -> ok" in printed(context, browser)[0], "it does not print where they part")
     for runs, steps in ((2, 4), (11, 3), (3, 400)):
         case = legal_case("t_print", runs, steps, "fail").replace("getverdict -> none", "alive 0 -> true")
         browser.open(page_of(context, "printed", case)), browser.go("#/t_print")
@@ -439,6 +457,8 @@ def it_prints(context: Context, browser: Browser) -> str:
         text, lines = " ".join(pages), case.split("\n")
         hold("t_print fail" in pages[0] and reason(read(case.encode())[0][0]) in pages[0] and version in pages[0], pages[0][:400])
         hold(all(f"{it} worker_{it} " in text for it in range(1, runs + 1)) and "mtc" in text, "a component is not printed")
+        heads = browser.js("looking.onPaper()")
+        same([heads[0]] * (runs + 1), heads, "the head of a component is lost")
         hold("After this entry the verdict is fail." in text and text.count("Component Phase Local") == 1, text[-900:])
         is_left, count = re.search(r"Left out: ([\d,]+) rows above line (\d+)", text), count + len(pages)
         hold((is_left is None) == (steps < 400) and ("columns 2 of 2" in text) == (runs > 9), text[:900])
@@ -497,7 +517,7 @@ def it_shows_evidence(context: Context, browser: Browser) -> str:
 def it_shows_a_case_of_evidence(context: Context, browser: Browser) -> str:
     """Names in heads, starts and states; remarks by the chart, the panel, the search and the box that hides them."""
     cases = read(KINDS_OF_EVIDENCE.encode())[0]
-    browser.open(page_of(context, "kinds_of_evidence", KINDS_OF_EVIDENCE)), to_case(browser, "t_heater")
+    browser.open(page_of(context, "kinds_of_evidence", KINDS_OF_EVIDENCE)), browser.go("#/t_heater")
     browser.holds(["mtc, run 0 bench", "1 heater, run 1 probe"], "$$('.heads title').map(title => title.textContent)")
     browser.holds(["mtc", "run 0 bench", "1", "heater", "run 1 probe", "not started"], "$$('.heads text').map(text => text.textContent)")
     labels = browser.js("$$('.rows [data-row] text:not(.gutter)').map(text => text.textContent)")
@@ -518,7 +538,7 @@ def it_shows_a_case_of_evidence(context: Context, browser: Browser) -> str:
         same(found, browser.js("looking.chosen()"), word)
     browser.key("Escape"), browser.click("[data-option=remarks]")
     browser.holds([f"line {it.number}: {it.text}" for it in cases[0].lines if not it.said], "looking.titles()")
-    browser.click("[data-option=remarks]"), to_case(browser, "t_again")
+    browser.click("[data-option=remarks]"), browser.go("#/t_again")
     same(["mtc", "1 a_component_with_a_long_name_abc, alive-type, run 1 probe, run 3 probe_of_a_valve_with_long_name", "2, run 4 bystander"],
          browser.js("$$('.heads title').map(title => title.textContent)"))
     browser.holds(3, "app.pane.chart.rows.find(row => row.times > 1).times")
@@ -527,6 +547,6 @@ def it_shows_a_case_of_evidence(context: Context, browser: Browser) -> str:
     return f"{len(labels)} labels"
 
 
-TESTS = (it_takes_any_text_without_less, it_shows_the_examples, it_shows_the_kinds, it_shows_one_case, it_draws_what_no_table_makes,
-         it_gives_pictures_and_mermaid, it_compares, it_opens_files, it_prints, it_draws_nothing_over_another_thing, it_tells_faults,
-         it_shows_evidence, it_shows_a_case_of_evidence, it_shows_large_histories)
+TESTS = (it_shows_the_examples, it_shows_the_kinds, it_shows_one_case, it_says_what_errors_mean,
+         it_draws_what_no_table_makes, it_gives_pictures_and_mermaid, it_compares, it_opens_files, it_prints,
+         it_draws_nothing_over_another_thing, it_tells_faults, it_shows_evidence, it_shows_a_case_of_evidence, it_shows_large_histories)

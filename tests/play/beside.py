@@ -109,8 +109,7 @@ def cases_of_the_program() -> Iterator[Case]:
     """The cases of the program's own tests that need no device, and whose words are text."""
     for group in (rows, scripts, of_words, explain, reports, sizes):
         for case in group.cases():
-            is_plain = isinstance(case, Case) and not (case.redirect or case.limit or case.stays_open or case.is_broken)
-            if is_plain and all(isinstance(word, str) for word in case.words):
+            if isinstance(case, Case) and case.is_plain and not case.stays_open:
                 yield case
 
 
@@ -161,7 +160,7 @@ def generated_histories(context: Context, engine: Engine) -> str:
 
 def the_largest_inputs(context: Context, engine: Engine) -> str:
     """As many bytes as may be, and one more; as many of everything as a script may have."""
-    met, (moves, _), (history, _) = Counter(), sizes.longest_list(), sizes.longest_history()
+    met, moves, history = Counter(), sizes.LONGEST_LIST, sizes.LONGEST_HISTORY
     for text, tasks in ((moves, REPLAYING), (history, CHECKING)):
         for words in tasks:
             for more in (b"", b"\n"):
@@ -177,7 +176,7 @@ def the_largest_inputs(context: Context, engine: Engine) -> str:
 
 def memory_is_refused(context: Context, engine: Engine) -> str:
     """With memory for nothing or a part of the work the answer says so, or it is right; with memory again the next one is right."""
-    met, (moves, _), (history, _) = Counter(), sizes.longest_list(), sizes.longest_history()
+    met, moves, history = Counter(), sizes.LONGEST_LIST, sizes.LONGEST_HISTORY
     script, small = sizes.waiting(64, 1000), texts(".history")[0]
     wanted = program_answer(context, ("check",), small)
     for words, text in ((("check",), history), (("report", "--csv"), history), (("explore", "--details"), script), (("explore", "--history"), script),

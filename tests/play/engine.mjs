@@ -32,7 +32,7 @@ function narrowly(words, input, left) {
   const spare = left && host_alloc(BigInt(left - 16));
   takeAll();
   if (spare) host_free(spare);
-  const status = engine.exports.tc_answer(rooms[0], BigInt(line.length), rooms[1], BigInt(bytes.length), output, BigInt(most), lengths,
+  const status = engine.exports.filskeam_answer(rooms[0], BigInt(line.length), rooms[1], BigInt(bytes.length), output, BigInt(most), lengths,
     errors, BigInt(most), lengths + 8n) & 255;
   const [long, told] = new BigUint64Array(memory.buffer, Number(lengths), 2), made = [engine.bytes(output, long), engine.bytes(errors, told)];
   const said = [status, ...made.map(inLetters), memory.buffer.byteLength];

@@ -17,7 +17,7 @@ MAKER, BUILDER = os.path.join(TOP, "page", "play", "make.py"), os.path.join(TOP,
 HEAD = ('target datalayout = "e-m:e-p270:32:32-i64:64"', 'target triple = "x86_64-unknown-linux-gnu"')
 DECLARED = ("declare { i64, ptr } @rattle_alloc(i64, i64)", "declare void @rattle_dealloc(ptr)",
             "declare void @llvm.memcpy.p0.p0.i64(ptr, ptr, i64, i1)")
-DEFINED = ('define i8 @tc_answer(ptr %0) #0 {', "  ret i8 0", "}",
+DEFINED = ('define i8 @filskeam_answer(ptr %0) #0 {', "  ret i8 0", "}",
            'attributes #0 = { "probe-stack"="inline-asm" "target-cpu"="x86-64-v2" nounwind }')
 # A stand-in for the kit's rattle: it starts the clang that it is given, as rattle does, in a folder with the bitcode.
 RATTLE = """#!/bin/sh
@@ -109,7 +109,7 @@ def a_wrong_module_is_refused(context: Context) -> str:
     head = b"\0asm\1\0\0\0"
     name = lambda text: bytes([len(text)]) + text.encode()
     section = lambda number, items: bytes([number, len(b"".join(items)) + 1, len(items)]) + b"".join(items)
-    exports = [name(it) + b"\0\0" for it in ("tc_answer", "host_alloc", "host_free")] + [name("memory") + b"\2\0"]
+    exports = [name(it) + b"\0\0" for it in ("filskeam_answer", "host_alloc", "host_free")] + [name("memory") + b"\2\0"]
     build.hold_module(head + section(1, [b"\x60\0\0"]) + section(7, exports))
     for data, word in ((b"", "no module"), (b"\x7fELF" + b"\0" * 60, "no module"), (head, "exports"), (head + section(7, exports[1:]), "exports"),
                        (head + section(7, [*exports, name("malloc") + b"\0\0"]), "exports"),

@@ -4,7 +4,7 @@ import os
 import random
 import re
 import time
-from typing import List, Tuple
+from typing import Dict, List, Tuple
 
 from beside import TOP, Context, program_answer, texts
 from browser import Browser
@@ -82,8 +82,19 @@ def witnesses(context: Context, text: str, *words: str) -> List[List[str]]:
     return [block.split("\n")[1:-1] for block in re.split(r"(?m)^end \w+\n", written)[:-1]]
 
 
+def hold_lines(page: Browser, script: List[List[str]]) -> None:
+    """Each entry that is shown has the line of the script with its step, and its run the name of the behaviour there."""
+    lasts: Dict[int, int] = {}
+    for run, entry, line, name in page.js("(game => game.list.map(({ run, text, line }) => [run, text, line, game.names.get(run)]))(app.pane.chart.game)"):
+        verb = entry.split()[1].replace("wake", "wait").replace("finish", "end")
+        hold(lasts.get(run, 0) < line or " wake " in entry and lasts[run] == line, (entry, line, lasts))
+        same([verb, name], [script[line - 1][0], next(it[1] for it in reversed(script[:line]) if it[:1] == ["behaviour"])], (entry, line))
+        lasts[run] = line
+
+
 def each_witness(context: Context, page: Browser, text: str, *words: str) -> int:
     """Opens each witness, and holds its entries, its verdict, its end and the words next to it to the program's."""
+    script = [it.split() for it in text.split("\n")]
     rows, details = explored(context, text, *words)
     number, wanted = 0, witnesses(context, text, *words)
     same(sum(len(verdicts) for _, verdicts, _ in rows), len(wanted))
@@ -93,6 +104,7 @@ def each_witness(context: Context, page: Browser, text: str, *words: str) -> int
             page.holds([name, verdict], "[$('h2').textContent, app.panes[0].chart.game.status]")
             page.holds(wanted[number], "app.panes[0].chart.game.list.map(entry => entry.text)")
             hold(f"verdict {verdict}" in page.js("(app.panes[0].chart.picture(''))"), name)
+            hold_lines(page, script)
             number += 1
     stuck = [line[9:] for line in details.splitlines() if line.startswith("  stuck: ")]
     shown = [it for at in range(number) for it in (page.go(f"#/{at}"), page.js("$$('#why li').map(one => one.textContent)"))[1]]
@@ -125,7 +137,8 @@ def two_verdicts_side_by_side(context: Context, page: Browser) -> str:
     """A race is shown at once: two charts up to where they part; each verdict leads to its own, and back."""
     opened(context, page)
     page.holds(["none", "fail"], "app.panes.map(pane => pane.chart.game.status)")
-    page.holds("alike for 2 entries", "$('#main .bar span').textContent")
+    page.holds(["alike for 2 entries", "none", "fail"], "[$('#main .bar span'), ...$$('.pane h3')].map(one => one.innerText.trim())")
+    page.js("choose(app.panes[1], 2)"), page.holds("141px", "$('#row').style.top")  # line 8
     page.holds(2, "$$('.rows .part').length")
     page.click("#rows a:nth-of-type(2)")
     page.holds(["#/1", "fail"], "[location.hash, ...app.panes.map(pane => pane.chart.game.status)]")
@@ -135,8 +148,8 @@ def two_verdicts_side_by_side(context: Context, page: Browser) -> str:
     page.click("#why summary")
     hold("none and fail: alike for 2 entries" in page.js("$('#why pre').innerText"), "the details are not shown")
     page.click("#main .bar a")
-    page.holds(2, CASES)
-    race = page.js("$('#text').value").split("\n", 1)[1]
+    page.holds([["fail", "run 1 worker on 1: 1 setverdict fail -> ok line 8"], ["none", "no verdict was set"]], "looking.rows().map(cells => [cells[0], cells[4]])")
+    race = page.js("$('#text').value").split("\n", 1)[1].replace("  setverdict", "  # worse\n\n  setverdict")
     both = race + race.replace("testcase t", "testcase u").replace("setverdict fail", "setverdict pass")
     give(page, both)
     page.holds(explored(context, both)[0], "looking.chips()")
@@ -144,7 +157,7 @@ def two_verdicts_side_by_side(context: Context, page: Browser) -> str:
     count = each_witness(context, page, both)
     # if no test case has two verdicts, one that can get stuck is shown
     give(page, NOTED + choose(page, "a circle of waits"))
-    page.holds("t_circle", "$('h2').textContent")
+    page.holds(["t_circle", "fill, line 16: wait killed other"], "[$('h2'), $$('#why li').at(-1)].map(one => one.textContent)")
     return f"2 charts, {count} witnesses"
 
 
@@ -261,7 +274,7 @@ def buttons_and_keys(context: Context, page: Browser) -> str:
     page.holds(False, "$('#proved').open", "Escape")
     page.click("#about"), page.click("#proved form button")
     page.holds(False, "$('#proved').open")
-    page.js("$('#text').focus()"), page.with_control("Enter"), answered(page)
+    page.js("$('#text').focus()"), page.press("Enter", with_control=True), page.settle(), answered(page)
     page.holds("BODY", "document.activeElement.tagName", "Escape")
     for act in (lambda: page.key("Escape"), lambda: page.click("#main .bar a")):
         opened(context, page), act()

@@ -6,7 +6,7 @@ from typing import Iterator, List, Tuple
 
 import progress
 from case import Case, Judgement, Ran, SomeText, Timed, Wanted, answer, as_lines, faults_in, refused
-from examples import TOP
+from harness import TOP, bytes_of
 from progress import all_lines
 from rows import CSV_HEADER, ONLY, SHARD, STOP_ON, counts_of
 from words import version_line
@@ -15,15 +15,14 @@ BENCH = os.path.join(TOP, "crates", "car_window", "out", "car_window")
 NAMES = ("closes", "opens_again", "pinches")
 VERDICTS = dict(zip(NAMES, ("pass", "pass", "fail")))
 # What decides the verdict of the one that fails.
-WHY = b"run 2 on component 2 judge: setverdict fail -> ok"
-OPTIONS = ("csv", "history", "evidence", "junit", "suite", "live", "progress", "stop-on", "list", "only", "shard")
+WHY = b"run 2 judge on component 2 judge: setverdict fail -> ok"
+OPTIONS = ("csv", "history", "evidence", "junit", "suite", "times", "live", "progress", "stop-on", "list", "only", "shard")
 FEWEST = 60
 
 
 def blocks() -> List[bytes]:
     """The part of each test case in the text report, which the gate compares too."""
-    with open(os.path.join(TOP, "crates", "car_window", "stdout"), "rb") as file:
-        return re.findall(rb"(?ms)^testcase .*?^verdict \w+\n", file.read())
+    return re.findall(rb"(?ms)^testcase .*?^verdict \w+\n", bytes_of("crates/car_window/stdout"))
 
 
 def text_of(names: Tuple[str, ...], ending: str = "complete") -> bytes:

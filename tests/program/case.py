@@ -14,6 +14,10 @@ from dataclasses import dataclass
 from itertools import islice
 from typing import Callable, Dict, Iterable, List, Mapping, Optional, Tuple, Union
 
+sys.path.append(os.path.dirname(os.path.dirname(os.path.abspath(__file__))))
+
+from harness import Ran, chosen
+
 # A program that has not ended after that many seconds is stopped, and its case has failed.
 SECONDS = 60
 # A test that has found that many faults ends.
@@ -47,12 +51,13 @@ class Timed:
 
 Word = Union[str, bytes]
 Wanted = Union[bytes, SomeText, Timed]
-# What is before the time in a line of `--progress`, and the time.
+# What is before the time in a line of `--progress`, and the time; and the same of its last line.
 TIME = re.compile(rb"^(\d+/\d+ \w+ [a-z]+) \d+\.\d{3} s(?=:|$)", re.MULTILINE)
+WHOLE_TIME = re.compile(rb"^(\d+ passed, \d+ failed), \d+\.\d s$", re.MULTILINE)
 
 
 def untimed(text: bytes) -> bytes:
-    return TIME.sub(rb"\1 0.000 s", text)
+    return WHOLE_TIME.sub(rb"\1, 0.0 s", TIME.sub(rb"\1 0.000 s", text))
 
 
 @dataclass(frozen=True)
@@ -75,6 +80,11 @@ class Case:
     is_broken: bool = False
 
     @property
+    def is_plain(self) -> bool:
+        """Whether it is made of nothing but an input and words that are text."""
+        return not (self.redirect or self.limit or self.is_broken) and all(isinstance(it, str) for it in self.words)
+
+    @property
     def command(self) -> str:
         """The command as a reader can type it."""
         words = [it if isinstance(it, str) else repr(it)[1:] for it in self.words]
@@ -86,16 +96,6 @@ class Case:
     def faults(self, program: str) -> List[str]:
         """What is wrong with a run of the program, nothing if the test passes."""
         return faults_of(self, run(self, program))
-
-
-@dataclass
-class Ran:
-    """What a run of the program gave. A status below 0 is the signal that ended it."""
-
-    output: bytes
-    errors: bytes
-    status: int
-    is_late: bool = False
 
 
 def joined(*words: str) -> str:
@@ -229,16 +229,10 @@ def lanes() -> int:
 
 
 def chosen_tests(parser: argparse.ArgumentParser, tests: Callable[[int], List[Test]]) -> Tuple[argparse.Namespace, List[Test]]:
-    """The words that the parser takes, and the tests that they choose."""
-    parser.add_argument("--only", default="", help="the tests with this in their names")
+    """The words that the parser takes, and the tests that they choose, which a seed makes."""
     parser.add_argument("--seed", type=int, default=1, help="of the random inputs")
-    parser.add_argument("--list", action="store_true", help="prints the names of the tests")
-    given = parser.parse_args()
-    chosen = [it for it in tests(given.seed) if given.only in it.name]
-    if given.list:
-        print("\n".join(it.name for it in chosen))
-        sys.exit(0)
-    return given, chosen
+    given, [named] = chosen(parser, ({it.name: it for it in tests(parser.parse_args().seed)}, 0))
+    return given, list(named.values())
 
 
 def guarded(test: Test, program: object) -> List[str]:

@@ -1,19 +1,20 @@
 """Histories and evidence after their script: worked texts of `check --script`, and random campaigns whose blocks are changed, next
-to a reading of their own."""
+to a reading of their own. Their reports, by `report --script`, and what failed, which `run --failed` runs next to a choice made here."""
 import random
 import re
 from collections import Counter
-from dataclasses import dataclass
+from dataclasses import dataclass, replace
 from typing import Iterator, List, Tuple, Union
 
+import reports
 from case import Case, Judgement, Ran, answer, as_lines, below, faults_in, refusal, refused, shown_with
 from choosing import Choice, choice
 from courses import fault_of_course
 from random_courses import drawn_campaign
 from rows import ONLY, SHARD, text
-from script_reader import Campaign
+from script_reader import Campaign, read_script
 from table import VERDICTS
-from texts import Block, Judged, check, read_history
+from texts import Block, Judged, check, judge_block, read_history
 
 A = "testcase a;behaviour m;setverdict pass;end;end"
 B = "testcase b;behaviour m;create p;start p other;wait done p;end;behaviour other;setverdict fail;end;end"
@@ -154,10 +155,6 @@ def wanted_of(campaign: Campaign, behind: bytes) -> Union[Ran, Judged]:
     return Ran(legal.output + as_lines(*notes), b"", 3 if notes else legal.status)
 
 
-def blocks_in(history: bytes) -> List[List[bytes]]:
-    return [it.splitlines(keepends=True) for it in re.split(rb"(?m)^(?=history |evidence )", history)[1:]]
-
-
 def changed(chance: random.Random, blocks: List[List[bytes]]) -> List[List[bytes]]:
     """The blocks with some change or other."""
     found, at = [list(it) for it in blocks], chance.randrange(len(blocks))
@@ -218,8 +215,9 @@ def drawn_comparisons(chance: random.Random, program: str, scripts: int, texts: 
     for _ in range(scripts):
         script, campaign = drawn_campaign(chance, chance.choice((1, 3, 6)))
         history = answer(program, script, "run", chance.choice(("--history", "--evidence"))).output
+        written = [it.splitlines(keepends=True) for it in re.split(rb"(?m)^(?=history |evidence )", history)[1:]]
         for _ in range(texts):
-            asked, taken, blocks = drawn_choice(chance, campaign, blocks_in(history))
+            asked, taken, blocks = drawn_choice(chance, campaign, written)
             for _ in range(chance.choice(changes)):
                 blocks = changed(chance, blocks) or blocks
             behind = b"".join(b"".join(it) for it in blocks)
@@ -263,15 +261,223 @@ def long_input(cases: int) -> Case:
     return Case("script_of_many_test_cases", ("check", "--script"), script + blocks, as_lines(*(f"legal {it} 2 pass" for it in names)))
 
 
+HEADER = "testcase,components,none,pass,inconc,fail,error,verdict"
+ROW_A, ROW_B, ROW_C = "a,1,0,1,0,0,0,pass", "b,2,1,0,0,1,0,fail", "c,1,1,0,0,0,0,none"
+OPEN_A = "history 2 a 1;0 setverdict pass -> ok;end pass"
+MISSING = "0,0,0,0,0,0,missing"
+
+# Name, the words of a choice, blocks after the script of a, b and c, the records of the table, what is printed on standard error,
+# status.
+TABLES: List[Tuple[str, str, str, str, str, int]] = [
+    ("each_once", "", f"{OF_A};{OF_B};{OF_C}", f"{ROW_A};{ROW_B};{ROW_C}", "", 1),
+    ("the_first_is_missing", "", f"{OF_B};{OF_C}", f"{ROW_B};{ROW_C};a,{MISSING}", "missing a", 3),
+    ("the_last_is_missing", "", f"{OF_A};{OF_B}", f"{ROW_A};{ROW_B};c,{MISSING}", "missing c", 3),
+    ("two_are_missing", "", OF_B, f"{ROW_B};a,{MISSING};c,{MISSING}", "missing a;missing c", 3),
+    ("a_pass_and_two_are_missing", "", OF_A, f"{ROW_A};b,{MISSING};c,{MISSING}", "missing b;missing c", 3),
+    ("three_times", "", f"{OF_A};{OF_A};{OF_B};{OF_A};{OF_C}", f"{ROW_A};{ROW_A};{ROW_B};{ROW_A};{ROW_C}", "twice a;twice a", 3),
+    ("the_last_of_a_name", "--last", f"{LESS_A};{OF_B};{OF_C};{OF_A}", f"{ROW_A};{ROW_B};{ROW_C}", "", 1),
+    ("the_last_of_a_name_and_one_is_missing", "--last", f"{LESS_A};{OF_C};{OF_A}", f"{ROW_A};{ROW_C};b,{MISSING}", "missing b", 3),
+    ("the_last_of_a_chosen_name", "--last --only a", f"{LESS_A};{OF_A}", ROW_A, "", 0),
+    ("the_last_of_a_shard", "--shard 1/2 --last", f"{LESS_A};{OF_C};{OF_A}", f"{ROW_A};{ROW_C}", "", 0),
+    ("in_the_wrong_order", "", f"{OF_C};{OF_A};{OF_B}", f"{ROW_C};{ROW_A};{ROW_B}", "out of order a;out of order b", 3),
+    ("of_no_test_case", "", f"{OF_A};{OF_B};{OF_C.replace(' c ', ' d ')}", f"{ROW_A};{ROW_B};{ROW_C.replace('c', 'd', 1)};c,{MISSING}", "unknown d;missing c", 3),
+    ("no_course", "", f"{LESS_A};{OF_B};{OF_C}", f"a,1,1,0,0,0,0,none;{ROW_B};{ROW_C}", "no course a", 3),
+    ("not_over", "", f"{OPEN_A};{OF_B};{OF_C}", f"a,1,0,1,0,0,0,unfinished;{ROW_B};{ROW_C}", "no course a", 3),
+    ("a_shard", "--shard 1/2", f"{OF_A};{OF_C}", f"{ROW_A};{ROW_C}", "", 0),
+    ("a_shard_that_lacks_one", "--shard 1/2", OF_C, f"{ROW_C};a,{MISSING}", "missing a", 3),
+    ("a_block_of_another_shard", "--shard 2/2", f"{OF_A};{OF_B}", f"{ROW_A};{ROW_B}", "unknown a", 3),
+    ("names", "--only c --only a", f"{OF_A};{OF_C}", f"{ROW_A};{ROW_C}", "", 0),
+    ("names_of_which_one_is_missing", "--only c --only b", OF_C, f"{ROW_C};b,{MISSING}", "missing b", 3),
+]
+
+RUN_A = '<testcase name="a" classname="ttrun">\n<system-out>\n  pass: mtc\n</system-out>\n</testcase>\n'
+RUN_C = '<testcase name="c" classname="ttrun">\n<skipped/>\n<system-out>\n  none: mtc\n</system-out>\n</testcase>\n'
+NO_RUN = ('<testcase name="{}" classname="ttrun">\n<error type="missing" message="there is no history of the test case"/>\n'
+          '<system-out>\n</system-out>\n</testcase>\n')
+
+# Name, blocks, the elements of the test cases that were run, the names of those that are missing, the counts.
+SUITES: List[Tuple[str, str, Tuple[str, ...], Tuple[str, ...], str]] = [
+    ("one_is_missing", f"{OF_A};{OF_C}", (RUN_A, RUN_C), ("b",), 'tests="3" failures="0" errors="1" skipped="1"'),
+    ("two_are_missing", OF_A, (RUN_A,), ("b", "c"), 'tests="3" failures="0" errors="2" skipped="0"'),
+]
+
+
+def faults_of_report(program: str, form: str, words: List[str], script: bytes, campaign: Campaign, behind: bytes) -> Tuple[List[str], Ran]:
+    """What is wrong with the report of these blocks after their script, of which these test cases are chosen."""
+    ran = answer(program, script + behind, "report", f"--{form}", "--script", *words)
+    (blocks, refused_as), judged = read_history(behind), check(behind)
+    if refused_as is not None or judged.status:
+        line = refused_as.errors if refused_as else b"ttrun: " + judged.output.splitlines(keepends=True)[-1]
+        return faults_in(Ran(b"", line, 3), ran), ran
+    notes, names = notes_of(campaign, blocks), [it.name for it in blocks]
+    told = reports.blocks_of(behind) + [reports.bare_case(it.name, "missing") for it in campaign if it.name not in names]
+    return reports.faults_of_forms(form, told, behind, ran, as_lines(*notes), 3 if notes else reports.status_for(told)), ran
+
+
+def faults_of_worked_blocks(program: str, form: str) -> List[str]:
+    """A form of each text of blocks that `check --script` is tested on."""
+    campaign = read_script(text(SCRIPT))
+    return [f"{name}: {it}" for name, blocks, _, _ in ROWS for it in faults_of_report(program, form, [], text(SCRIPT), campaign, text(blocks))[0]]
+
+
+def faults_of_suite(program: str, blocks: str, elements: Tuple[str, ...], missing: Tuple[str, ...], counts: str) -> List[str]:
+    """A JUnit report, byte by byte except the version."""
+    ran = answer(program, text(f"{SCRIPT};{blocks}"), "report", "--script", "--junit")
+    cases = "".join([*elements, *map(NO_RUN.format, missing)])
+    wanted = (f'<?xml version="1.0" encoding="UTF-8"?>\n<testsuites {counts}>\n<testsuite name="ttrun" {counts}>\n'
+              f'<properties>\n<property name="version" value="{reports.version_in(ran.output)}"/>\n</properties>\n{cases}</testsuite>\n</testsuites>\n')
+    return faults_in(Ran(wanted.encode(), as_lines(*(f"missing {it}" for it in missing)), 3), ran)
+
+
+def faults_of_random_campaigns(program: str, seed: int) -> Iterator[str]:
+    """Forms of real runs and of what was changed of them, with choices, as by the tests' own making."""
+    chance, met = random.Random(f"compared reports {seed}"), Counter()
+    for it in drawn_comparisons(chance, program, 60, 6, (0, 0, 1, 1, 2)):
+        form = chance.choice(reports.FORMS)
+        if it.lacks:
+            faults = faults_in(refusal(ONLY), it.answer(program, "report", f"--{form}", "--script"))
+        else:
+            faults, ran = faults_of_report(program, form, it.words, it.script, it.taken, it.behind)
+            met[form] += 1
+            met["whole"] += ran.status < 3
+            met["failed"] += ran.status in (1, 2)
+            met["nothing"] += not ran.output
+            met.update(line.rpartition(" ")[0] for line in ran.errors.decode().splitlines())
+        yield from shown_with(faults, *it.shown())
+    yield from below(met, {**dict.fromkeys(reports.FORMS, 40), "whole": 40, "failed": 10, "nothing": 5, "missing": 12, "twice": 5, "out of order": 3,
+                           "unknown": 10, "no course": 5})
+
+
+BAD_A = OF_A.replace("-> ok", "-> none", 1)
+PASS_OF_B = OF_B.replace("fail", "pass")
+FAILED_A = "history 2 a 1;0 setverdict fail -> ok;0 finish -> ok;end fail"
+NOT_OF_C = OF_C.replace(" c ", " d ")
+
+# Name, the words of a choice, blocks after the script of a, b and c, the names of the test cases that are run.
+LISTS: List[Tuple[str, str, str, str]] = [
+    ("what_is_not_pass_or_none", "", f"{OF_A};{OF_B};{OF_C}", "b"),
+    ("what_is_missing", "", f"{OF_A};{OF_B}", "b;c"),
+    ("all_but_one", "", OF_C, "a;b"),
+    ("nothing_failed", "", f"{OF_A};{PASS_OF_B};{OF_C}", ""),
+    ("inconc", "", f"{OF_A};{OF_B.replace('fail', 'inconc')};{OF_C}", "b"),
+    ("error", "", f"{OF_A};{OF_B};history 2 c 1;0 stopcase -> ok;end error", "b;c"),
+    ("twice_with_one_failure", "", f"{OF_A};{FAILED_A};{OF_B};{OF_C}", "a;b"),
+    ("twice_with_one_failure_first", "", f"{FAILED_A};{OF_A};{OF_B};{OF_C}", "a;b"),
+    ("twice_without_failure", "", f"{OF_A};{OF_A};{OF_B};{OF_C}", "b"),
+    ("another_order", "", f"{OF_C};{OF_B};{OF_A}", "b"),
+    ("a_name_of_no_test_case", "", f"{NOT_OF_C};{OF_A};{OF_B}", "b;c"),
+    ("not_legal", "", f"{PASS_OF_B};{OF_C};{BAD_A}", "a"),
+    ("not_legal_by_its_verdict", "", f"{OF_A};{OF_B.replace('end fail', 'end pass')};{OF_C}", "b"),
+    ("behind_one_that_is_not_legal", "", f"{BAD_A};{PASS_OF_B}", "a;c"),
+    ("twice_and_once_legal", "", f"{OF_A};{BAD_A};{OF_C}", "a;b"),
+    ("twice_and_the_last_passed", "--last", f"{FAILED_A};{OF_B};{OF_C};{OF_A}", "b"),
+    ("twice_and_the_last_failed", "--last", f"{OF_A};{PASS_OF_B};{OF_C};{FAILED_A}", "a"),
+    ("twice_and_the_last_is_legal", "--last", f"{BAD_A};{OF_A};{OF_C}", "b"),
+    ("twice_and_the_last_is_not_legal", "--last", f"{OF_A};{OF_C};{PASS_OF_B};{BAD_A}", "a"),
+    ("all_passed_at_last", "--last", f"{FAILED_A};{OF_B};{OF_C};{OF_A};{PASS_OF_B}", ""),
+    ("some_names_at_last", "--last --only a --only b", f"{OF_A};{FAILED_A};{PASS_OF_B}", "a"),
+    ("a_shard_at_last", "--shard 1/2 --last", f"{FAILED_A};{OF_C};{OF_A}", ""),
+    ("of_some_names", "--only a --only b", OF_A, "b"),
+    ("of_a_name_that_passed", "--only a", f"{OF_A};{OF_B}", ""),
+    ("of_a_shard", "--shard 1/2", OF_C, "a"),
+    ("of_the_other_shard", "--shard 2/2", f"{OF_A};{OF_C}", "b"),
+    ("of_a_shard_of_names", "--only c --shard 1/1 --only b", PASS_OF_B, "c"),
+]
+
+# Name, options, blocks after the script, output, status.
+RUNS: List[Tuple[str, str, str, str, int]] = [
+    ("one", "--csv", f"{OF_A};{OF_B};{OF_C}", f"{HEADER};b,2,1,0,0,1,0,fail", 1),
+    ("two", "--csv --live", PASS_OF_B, f"{HEADER};a,1,0,1,0,0,0,pass;c,1,1,0,0,0,0,none", 0),
+    ("none", "--csv", f"{OF_A};{PASS_OF_B};{OF_C}", HEADER, 0),
+    ("up_to_a_rule", "--csv --stop-on pass", OF_C, f"{HEADER};a,1,0,1,0,0,0,pass", 0),
+]
+
+
+def counted(blocks: List[Block], last: bool) -> List[Block]:
+    """The last of each name, in the order in which the names come first; or all."""
+    return list({it.name: it for it in blocks}.values()) if last else blocks
+
+
+def not_passed(names: List[str], blocks: List[Block]) -> List[str]:
+    """Those of the names that have no block, or one that is not legal or has a verdict other than none and pass."""
+    found = []
+    for name in names:
+        passed = [it.verdict in ("none", "pass") and judge_block(it)[1] for it in blocks if it.name == name]
+        if not passed or not all(passed):
+            found.append(name)
+    return found
+
+
+def faults_of_what_failed(program: str, seed: int) -> Iterator[str]:
+    """What real runs wrote, and what was changed of it, next to a choice by the texts."""
+    chance, met = random.Random(f"failed {seed}"), Counter()
+    for it in drawn_comparisons(chance, program, 30, 6, (0, 1, 1, 2)):
+        read, refused_as = read_history(it.behind)
+        if it.lacks:
+            wanted = refusal(ONLY)
+        elif refused_as is not None:
+            wanted = refused_as
+            met["refused"] += 1
+        else:
+            taken = [case.name for case in it.taken]
+            names = not_passed(taken, read)
+            wanted = Ran(as_lines(*names), b"", 0)
+            again = replace(it, behind=it.behind + answer(program, it.script, "run", "--history").output)
+            both, _ = read_history(again.behind)
+            at_last = not_passed(taken, counted(both, True))
+            yield from shown_with(faults_in(Ran(as_lines(*at_last), b"", 0), again.answer(program, "run", "--list", "--failed", "--last")), *again.shown())
+            met["passed at last"] += at_last != not_passed(taken, both)
+            met["lists"] += 1
+            met["left out"] += len(it.taken) - len(names)
+            met["failed"] += sum(any(block.name == name for block in read) for name in names)
+            met["illegal"] += sum(not judge_block(block)[1] for block in read)
+            met["missing"] += sum(all(block.name != name for block in read) for name in names)
+        yield from shown_with(faults_in(wanted, it.answer(program, "run", "--list", "--failed")), *it.shown())
+    yield from below(met, {"lists": 100, "left out": 40, "failed": 40, "illegal": 8, "missing": 8, "passed at last": 5})
+
+
+def of_a_long_text() -> Case:
+    """A script and evidence that are longer together than a script may be."""
+    remark = f"0 # {'x' * 190}"
+    behind = f"evidence 1 a 1;0 setverdict pass -> ok;{';'.join([remark] * 6_000)};0 finish -> ok;end pass"
+    return Case("failed_after_a_long_text", ("run", "--list", "--failed"), text(f"{SCRIPT};{behind}"), text("b;c"))
+
+
+def failed_cases() -> List[Case]:
+    words = ("run", "--failed")
+    found = [Case(f"failed_{name}", ("run", "--list", "--failed", *chosen.split()), text(f"{SCRIPT};{blocks}"), text(names) if names else b"")
+             for name, chosen, blocks, names in LISTS]
+    found += [Case(f"failed_and_run_{name}", (*words, *options.split()), text(f"{SCRIPT};{blocks}"), text(output), status=status)
+              for name, options, blocks, output, status in RUNS]
+    found += [refused(f"failed_{it}_{name}", (*words, *(("--list",) if it == "listed" else ())), given, fault)
+              for it in ("run", "listed") for name, given, fault in REFUSED]
+    found += [refused(f"failed_of_a_part_{name}", (*words, *chosen.split()), given, fault) for name, chosen, given, fault in REFUSED_CHOICES]
+    given = text(f"{SCRIPT};{FAILED_A};{PASS_OF_B};{OF_A}")
+    return [*found, of_a_long_text(), Case("explored_at_last", ("explore", "--failed", "--last"), given, b"c none complete\n")]
+
+
+def report_cases() -> List[Case]:
+    words = ("report", "--csv", "--script")
+    found = [Case(f"report_beside_a_script_{name}", (*words, *chosen.split()), text(f"{SCRIPT};{blocks}"),
+                  text(f"{HEADER};{records}"), text(errors) if errors else b"", status) for name, chosen, blocks, records, errors, status in TABLES]
+    full = refused("report_beside_a_script_on_a_full_device", words, text(f"{SCRIPT};{OF_A}"), "write fault", redirect=">/dev/full")
+    return [*found, *refused_texts("report_beside", ("report", "--script", "--junit"), words), full]
+
+
 def cases() -> List[Case]:
     words = ("check", "--script")
     chosen = [(f"beside_a_script_{name}", "", *row) for name, *row in ROWS] + [(f"beside_a_part_of_a_script_{name}", *row) for name, *row in CHOSEN]
     found = [Case(name, (*words, *choice.split()), text(f"{SCRIPT};{given}"), text(output), status=status)
              for name, choice, given, output, status in chosen]
-    return [*found, *refused_texts("beside", words), long_input(1_000)]
+    return [*found, *refused_texts("beside", words), long_input(1_000), *report_cases(), *failed_cases()]
 
 
 def judgements(seed: int) -> List[Judgement]:
-    return [Judgement(f"runs_and_changed_runs_beside_their_script_{seed}", "ttrun check --script < (random scripts and runs)",
-                      runs_and_changed_runs, (seed,)),
-            Judgement(f"witnesses_are_courses_{seed}", "ttrun explore --history, and check --script", witnesses_are_courses, (seed,))]
+    found = [Judgement(f"report_beside_a_script_of_worked_blocks_{it}", f"ttrun report --script --{it}", faults_of_worked_blocks, (it,))
+             for it in reports.FORMS]
+    found += [Judgement(f"suite_beside_a_script_{name}", "ttrun report --script --junit", faults_of_suite, tuple(kept)) for name, *kept in SUITES]
+    seeded = (("reports_of_random_campaigns_beside_their_script", "ttrun report --script < (random scripts and runs)", faults_of_random_campaigns),
+              ("runs_and_changed_runs_beside_their_script", "ttrun check --script < (random scripts and runs)", runs_and_changed_runs),
+              ("runs_of_what_failed", "ttrun run --list --failed < (random scripts and runs)", faults_of_what_failed),
+              ("witnesses_are_courses", "ttrun explore --history, and check --script", witnesses_are_courses))
+    return found + [Judgement(f"{name}_{seed}", command, judge, (seed,)) for name, command, judge in seeded]

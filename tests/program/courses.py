@@ -12,7 +12,7 @@ from typing import Dict, List, NamedTuple, Optional, Set, Tuple
 
 from script_reader import TestCase, given_name
 from table import Op, Table, Target
-from texts import Block, Entry
+from texts import Block, Entry, Said
 
 
 class Going:
@@ -149,7 +149,12 @@ def block_in_turn(case: TestCase) -> Block:
             raise NotInTurn
         entries += (first or calls)[:1]
         state.step(entries[-1].caller)
-    return Block("2", case.name, len(case.behaviours), entries, 0, state.table.overall())
+    return with_names(case, Block("2", case.name, len(case.behaviours), entries, 0, state.table.overall()))
+
+
+def with_names(case: TestCase, block: Block) -> Block:
+    """The block of a test case, which says the names of its behaviours."""
+    return replace(block, said=[(0, Said(run, "", it.name)) for run, it in enumerate(case.behaviours)])
 
 
 def fault_of_course(case: TestCase, block: Block) -> str:

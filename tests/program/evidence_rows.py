@@ -11,20 +11,21 @@ from typing import Dict, Iterator, List, Tuple, Union
 import examples
 import reports
 from case import Case, Judgement, Ran, answer, as_lines, below, difference, faults_in, joined, refused, shown_with
+from harness import TOP, text_of
 from random_scripts import drawn_script
 from rows import text
 from script_reader import Campaign, read_script
-from texts import MOST_BYTES_OF_A_HISTORY, check
+from sizes import LONGEST_EVIDENCE
+from texts import check
 
 # The tests of the page have random evidence, and those of a service the history of a block.
-sys.path += [os.path.join(examples.TOP, "tests", it) for it in ("page", "serve")]
+sys.path += [os.path.join(TOP, "tests", it) for it in ("page", "serve")]
 
 import evidence
 import evidence_texts
 
 # How many bytes `check` reads at a time, at most: what the sources say, so that the rows cut lines where `check` does.
-with open(os.path.join(examples.TOP, "crates", "tc_blocks", "src", "source.rt"), encoding="utf-8") as source:
-    BYTES_OF_A_PART = int(re.findall(r"^const PART: usize = (\d+);$", source.read(), re.MULTILINE)[0])
+BYTES_OF_A_PART = int(re.findall(r"(?m)^const PART: usize = (\d+);$", text_of("crates/tc_blocks/src/source.rt"))[0])
 
 CASE = ("evidence 1 t 3;behaviour 0 main;0 create named heater -> made 1;behaviour 1 probe;0 # first <b>;0 start 1 1 -> ok;"
         "1 ! bad move;1 setverdict fail -> ok;1 # too hot: 85 > 80, and 80 <= limit;2 # never started;1 finish -> ok")
@@ -106,15 +107,11 @@ REFUSED: List[Tuple[str, bytes, int, str]] = [
 
 def long_texts() -> Iterator[Case]:
     """A text as long as may be, and one byte more, each of evidence."""
-    head, tail, line = b"evidence 1 t 1\n", b"end none\n", b"0 # " + b"x" * 200 + b"\n"
-    count, rest = divmod(MOST_BYTES_OF_A_HISTORY - len(head) - len(tail), len(line))
-    filled = head + line * count + (b"0 # " + b"x" * (rest - 5) + b"\n" if rest > 5 else b"") + tail
-    assert MOST_BYTES_OF_A_HISTORY - 5 <= len(filled) <= MOST_BYTES_OF_A_HISTORY, len(filled)
-    yield Case("the_longest_evidence", ("check",), filled, b"legal t 0 none\n")
+    head, tail, filled = b"evidence 1 t 1\n", b"end none\n", LONGEST_EVIDENCE
     yield Case("the_longest_evidence_in_less_memory_than_its_bytes", ("check",), filled, b"legal t 0 none\n", limit="-v 14000")
-    yield refused("evidence_that_is_too_long", ("check",), filled + b"\n" * (MOST_BYTES_OF_A_HISTORY + 1 - len(filled)), "input too long")
+    yield refused("evidence_that_is_too_long", ("check",), filled + b"\n", "input too long")
     # What is wrong with a text is said only when its last byte is read: there may be too many of them.
-    late = b"evidence 1 t 1\n0 getverdict -> pass\nend none\n" + filled[:3_000_000] + b"\nx\n"
+    late = b"evidence 1 t 1\n0 getverdict -> pass\nend none\n" + filled[:filled.index(b"\n", 3_000_000)] + b"\nx\n"
     yield refused("a_fault_before_too_many_bytes", ("check",), b"x\n" + filled, "input too long")
     yield refused("a_fault_before_a_million_bytes", ("check",), b"x\n" + filled[:1_000_000], "line 1: bad first line")
     last = late.count(b"\n")
@@ -147,7 +144,7 @@ def held_page(program: str) -> List[str]:
     """No byte of a page of evidence but those of its two parts is `<`; turning U+2039 back gives the text."""
     given = text(f"{WHOLE};evidence 1 u 1;0 # </script><script>alert(1)</script><!--;0 ! {'<' * 200};end none")
     page = answer(program, given, "report", "--html").output
-    head, tail = reports.pages.page_of(b"\0").split(b"\0")
+    head, tail = reports.page_of(b"\0").split(b"\0")
     inside = page[len(head):len(page) - len(tail)]
     faults = [] if page == head + inside + tail and b"<" not in inside else ["the page has a tag in its text"]
     return faults + difference("the text", given, inside.replace("\u2039".encode(), b"<"))
@@ -168,7 +165,7 @@ def faults_of_a_run(program: str, script: bytes, live: Tuple[str, ...], met: Cou
     faults = faults_in(Ran(written_of(campaign, blocks), b"", examples.status_in("history", plain)), ran)
     faults += examples.faults_of_history(campaign, plain)
     faults += [] if len(blocks) == len(campaign) else [f"{len(blocks)} blocks of {len(campaign)} test cases"]
-    for words in (("check",), ("report", "--csv"), ("report", "--junit")):
+    for words in (("check",), ("report", "--csv")):
         of_both = [answer(program, it, *words) for it in (plain, ran.output)]
         faults += [] if of_both[0] == of_both[1] else [f"{words}: {of_both[1]} of evidence, and {of_both[0]} of the history in it"]
     met.update(blocks=len(blocks), names=sum(len(it.names) for it in blocks), entries=sum(len(it.entries) for it in blocks), live=len(live))

@@ -1,8 +1,9 @@
-"""What --explain prints after the line of a fault, and that nothing else changes."""
+"""What --explain prints after the line of a fault, and that nothing else changes. More rows are in explanations.txt."""
+import re
 from typing import Dict, Iterator, List, Tuple, Union
 
 from case import Case, as_lines, refused
-from rows import STOP_ON, text
+from rows import STOP_ON, blocks_of, text
 
 # A name, a text with a `^` before what an explanation points at, and what it says.
 Row = Tuple[str, ...]
@@ -23,7 +24,6 @@ def within(test_case: int, behaviour: int = 0) -> List[str]:
 
 
 STEPS = "end create start stop kill stopcase running alive done killed wait setverdict getverdict"
-VERBS = "create start stop kill stopcase running alive done killed wait setverdict getverdict wake finish"
 REPLIES = "made ok true false none pass inconc fail error matched parked ended"
 ERRORS = "no-component not-main start-main already-running not-startable no-behaviour too-many stuck"
 IN_HISTORY = "a history began in line 1"
@@ -45,7 +45,6 @@ NO_PORTS = "a script has no ports and messages"
 NO_VALUES = "a script has no types, values and variables: a create makes a component and names it"
 NO_CONTROL = "a script has no control part: its test cases are run in the order of the text"
 NO_MODULES = "a script has no modules: it begins with `testcase` and a name"
-ZERO = "a number begins with 0 only if it is 0"
 FOUR = "a start has at most 4 arguments"
 LONG = "abcdefghijklmnopqrstuvwxyz_01234"
 VERDICT, COMPONENT = there("none, pass, inconc or fail"), there("the name of a component")
@@ -212,43 +211,6 @@ ODD_LINES: List[Tuple[str, bytes, str, str]] = [
     ("an_escape", b"\x1b[31m", "\\x1B[31m", "column 1: the byte \\x1B"),
 ]
 
-# Line 2 of a list of moves of one behaviour.
-MOVE_LINES: List[Row] = [
-    ("a_verb_misspelt", "0 ^finsh", there(VERBS), "nearest: finish"),
-    ("no_run", "^finish", there("the number of a run")),
-    ("no_word", "^", there("the number of a run")),
-    ("two_spaces", "0  finish", "column 3: a space too many"),
-    ("a_space_at_the_beginning", " 0 finish", "column 1: a space too many"),
-    ("a_space_at_the_end", "0 finish ", "column 9: a space too many"),
-    ("a_component_by_name", "0 stop ^p", there("all or a component")),
-    ("a_number_with_a_zero", "0 stop ^01", ZERO),
-    ("a_run_that_is_too_large", "^65536 finish", "the number is at most 65535"),
-    ("a_started_run_that_is_too_large", "0 start 1 ^65536", "the number is at most 65535"),
-    ("a_component_that_is_too_large", "0 start ^4294967296 1", "the number is at most 4294967295"),
-    ("five_arguments", "0 start 1 1 0 0 0 0 0", FOUR),
-    ("a_status_misspelt", "0 wait ^doen 1", there("done or killed"), "nearest: done"),
-    ("a_wake_of_nothing", "0 wake ^running 1", there("done or killed")),
-]
-
-# Line 2 of a history.
-ENTRY_LINES: List[Row] = [
-    ("a_space_before_an_entry", " 0 finish -> ok", "column 1: a space too many"),
-    ("no_reply", "0 finish^", there("-> and a reply")),
-    ("no_arrow", "0 finish ^ok", there("-> and a reply")),
-    ("nothing_behind_the_arrow", "0 finish ->^", there(REPLIES)),
-    ("a_reply_that_is_none", "0 finish -> ^oki", there(REPLIES), "nearest: ok"),
-    ("a_reply_like_no_other", "0 finish -> ^done", there(REPLIES), "nearest: none"),
-    ("made_without_its_number", "0 create -> made^", there("the number of a component")),
-    ("an_error_misspelt", "0 stop 1 -> error ^no-componant", there(f"{ERRORS}, or the end of the line"), "nearest: no-component"),
-    ("a_word_behind_the_reply", "0 finish -> ok ^now", there("the end of the line")),
-    ("a_reply_with_a_zero", "0 create -> made ^01", ZERO),
-    ("a_made_component_that_is_too_large", "0 create -> made ^4294967296", "the number is at most 4294967295"),
-    ("an_entry_of_five_arguments", "0 start 1 1 0 0 0 0 0 -> ok", FOUR),
-    ("no_verdict", "end ^passed", there("none, pass, inconc, fail or error"), "nearest: pass"),
-    ("a_word_behind_the_verdict", "end none ^1", there("the end of the line")),
-    ("a_history_in_a_history", "^history 2 b 1", there("the number of a run, or end")),
-]
-
 # Whole inputs, by the words before --explain; the fault comes before what is said of it.
 TEXTS: Dict[str, List[Tuple[Union[str, bytes], ...]]] = {
     "run": [
@@ -378,13 +340,11 @@ def pointed(line: str, *notes: str) -> Tuple[str, List[str]]:
 
 
 def of_lines() -> Iterator[Case]:
-    for rows, words, frame, around in ((STEP_LINES, "run", SCRIPT, within(1, 2)), (NAME_LINES, "run", NAMED_SCRIPT, within(1, 2)),
-                                       ({"line 2: bad move": MOVE_LINES}, "replay", "behaviours 1\n{}\n0 finish\n", []),
-                                       ({"line 2: bad entry": ENTRY_LINES}, "check", "history 2 a 1\n{}\nend none\n", [IN_HISTORY])):
+    for rows, frame in ((STEP_LINES, SCRIPT), (NAME_LINES, NAMED_SCRIPT)):
         for fault, listed in rows.items():
             for name, marked, *notes in listed:
-                line, told = pointed(marked, *notes, *around)
-                yield from both(name, (words,), frame.replace("{}", line).encode(), fault, told)
+                line, told = pointed(marked, *notes, *within(1, 2))
+                yield from both(name, ("run",), frame.replace("{}", line).encode(), fault, told)
     for name, odd, shown, note in ODD_LINES:
         told = [f"line: `{shown}`", note, *within(1, 2)]
         yield from both(name, ("run",), SCRIPT.encode().replace(b"{}", odd), "line 3: byte not allowed", told)
@@ -413,6 +373,16 @@ def of_texts() -> Iterator[Case]:
             yield from both(name, tuple(words.split()), marked.replace(b"^", b""), fault, notes)
 
 
+def of_file() -> Iterator[Case]:
+    """The rows of explanations.txt, which says how they are written."""
+    for words, given, said, *rows in blocks_of("explanations.txt"):
+        for line, told in (it.split(" => ") for it in rows):
+            shown, whole = (it.format(line=line, told=told, column=len(line) + 2) for it in (given, said))
+            read = re.sub(rb"\\x(..)", lambda it: bytes.fromhex(it[1].decode()), shown.replace(";", "\n").encode())
+            fault, *notes = whole.split(";  ")
+            yield from both(f"{words}: {shown}", (words,), read, fault, notes)
+
+
 def large() -> Case:
     """A script of nearly 1 MiB, each line of which gives a name; in its last behaviour one is misspelt."""
     creates = b"".join(b"create p%03d\n" % it for it in range(1000))
@@ -426,7 +396,13 @@ def cases() -> Iterator[Case]:
     yield from of_lines()
     yield from of_ttcn_3()
     yield from of_texts()
+    yield from of_file()
     yield large()
+    # Each word that may be a reply or an error is read as one: an entry that is not read is refused before another is judged.
+    replies = ["made 1" if it == "made" else it for it in REPLIES.split()] + [f"error {it}" for it in ERRORS.split()]
+    histories = text(";".join(f"history 1 a 1;0 finish -> {it};end none" for it in replies))
+    yield Case("each_word_of_a_reply_is_read", ("check",), histories, text("line 2: made 1, table gives ok"), status=3)
+    yield Case("a_finish_and_a_wake_are_read", ("replay",), text("behaviours 1;0 finish;0 wake done all"), text("ok;ended;verdict none"))
     yield Case("explain_nothing", ("check", "--explain"), text("history 2 a 1;0 finish -> ok;end none"), output=b"legal a 1 none\n")
     yield refused("explain_no_word_of_stop_on", ("run", "--explain", "--stop-on", "bad"), b"foo\n", STOP_ON)
     yield refused("explain_too_long", ("run", "--explain"), b"#" * 1048577, "input too long")

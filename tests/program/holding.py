@@ -14,7 +14,7 @@ TESTS_FOLDER = os.path.dirname(os.path.dirname(os.path.abspath(__file__)))
 REFERENCE = os.path.join(TESTS_FOLDER, "serve", "reference.py")
 sys.path.append(TESTS_FOLDER)
 
-from harness import TOP, Answer, Fault, Skipped, answer_of, chosen, hold, same, status_of, text_of, words_of, write
+from harness import TOP, Answer, Fault, Folder, Skipped, answer_of, chosen, hold, same, status_of, text_of, words_of
 
 # The tests by their names. A test is called with its place, and may answer what it reached.
 TESTS: Dict[str, Callable[..., object]] = {}
@@ -67,18 +67,11 @@ def hold_each_call(entries: Sequence[str]) -> int:
 
 
 @dataclass
-class Room:
+class Room(Folder):
     room: str
 
     def path(self, name: str) -> str:
         return os.path.join(self.room, name)
-
-    def text(self, name: str) -> str:
-        return text_of(self.path(name))
-
-    def write(self, name: str, text: str, is_run: bool = False) -> str:
-        """Writes a file, in a folder that need not be there yet: its path."""
-        return write(self.path(name), text, is_run)
 
 
 @dataclass

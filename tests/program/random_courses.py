@@ -1,16 +1,18 @@
 """Random test cases that race: `explore` is held to a plain search of all schedules, its witnesses to `check`, and the steps that
-no schedule carries out and the local verdicts to that search too."""
+no schedule carries out and the local verdicts to that search too. What `--details` prints is held to the witnesses and a reading here."""
 import random
 import re
 from collections import Counter
+from itertools import takewhile, zip_longest
 from typing import Dict, Iterator, List, Set, Tuple
 
 from case import Judgement, answer, below, faults_in, shown_with
-from courses import courses_of, fault_of_course
+from courses import courses_of, fault_of_course, with_names
 from random_scripts import ScriptWriter
+from reports import Told, line_of
 from script_reader import Behaviour, Campaign, TestCase, read_script
-from table import VERDICTS
-from texts import Judged, check, legal_blocks
+from table import VERDICTS, Table
+from texts import Block, Entry, Judged, check, legal_blocks
 
 BATCHES = 10
 CASES = 250
@@ -158,5 +160,84 @@ def every_verdict_is_told(program: str, seed: int) -> Iterator[str]:
     yield from below(met, {"cases": 2400, "races": 600, "unseen": 600, "locals": 600, "hidden": 100, **dict.fromkeys(VERDICTS, 150)})
 
 
+CASES_WITH_DETAILS = 100
+COLUMN = 36
+ROWS = 12
+
+
+def alike(left: List[str], right: List[str]) -> int:
+    return len(list(takewhile(lambda both: both[0] == both[1], zip(left, right))))
+
+
+def end_text(side: str, block: Block, run: int, calls: List[Entry]) -> str:
+    """What ended a run whose next call is replied so."""
+    table = Table(block.behaviours)
+    is_ended = calls and calls[0].reply == "ended"
+    for entry in block.entries[:block.entries.index(calls[0])] if is_ended else []:
+        was_active = table.is_going_on(run)
+        table.play(entry.caller, entry.op)
+        if was_active and not table.is_going_on(run):
+            return f"; {side}: before it {entry.text()}"
+    return ""
+
+
+def parting_lines(one: Block, other: Block) -> Iterator[str]:
+    """For each run the first of its calls that differ."""
+    told = Told(one), Told(other)
+    for run in sorted({it.caller for it in one.entries + other.entries}):
+        left, right = ([it for it in block.entries if it.caller == run and it.reply != "parked"] for block in (one, other))
+        same = alike(*(list(map(line_of, calls)) for calls in (left, right)))
+        sides = ((one, left[same:]), (other, right[same:]))
+        first, second = (names.named(calls[0]) if calls else "not made" for names, (_, calls) in zip(told, sides))
+        ends = "".join(end_text(side, block, run, calls) for side, (block, calls) in zip(("left", "right"), sides))
+        yield from [f"  run {told[0].run(run)}: call {same + 1}: {first} | {second}{ends}"] * (len(left) > same or len(right) > same)
+
+
+def race_lines(one: Block, other: Block) -> List[str]:
+    """Two witnesses from where they part: next to each other, or run by run if that is long."""
+    left, right = ([it.text() for it in block.entries] for block in (one, other))
+    same = alike(left, right)
+    rows = [(one.verdict, other.verdict), *zip_longest(left[same:], right[same:], fillvalue="")]
+    parted = parting_lines(one, other)
+    return [f"  {one.verdict} and {other.verdict}: alike for {same} entries",
+            *(parted if len(rows) > ROWS + 1 else (f"  {a:<{COLUMN}} | {b}" for a, b in rows))]
+
+
+def witness_lines(told: Told) -> List[str]:
+    """The local verdicts of a witness, what decided its verdict, and who waits for whom."""
+    found = ", ".join(" ".join(both) for both in zip(told.components, told.locals))
+    return [f"  {told.end}: {found}", *([f"  {told.end}: {told.why()}"] if told.message else []), *told.waits]
+
+
+def wanted_of(lines: List[str], blocks: List[Block]) -> List[str]:
+    """What `explore --details` writes, by the lines of `explore` and its witnesses."""
+    wanted: List[str] = []
+    for line in lines:
+        witnesses = [it for it in blocks if it.name == line.split(" ")[0]]
+        wanted += [line, *(it for block in witnesses for it in witness_lines(Told(block)))]
+        wanted += [it for other in witnesses[1:] for it in race_lines(witnesses[0], other)]
+    return wanted
+
+
+def details_are_of_the_witnesses(program: str, seed: int) -> Iterator[str]:
+    """Random test cases that race: the details are those of the histories."""
+    chance, met = random.Random(f"details {seed}"), Counter()
+    for _ in range(BATCHES):
+        text, campaign = drawn_campaign(chance, CASES_WITH_DETAILS)
+        plain, histories, ran = (answer(program, text, "explore", *it) for it in ((), ("--history",), ("--details",)))
+        lines = plain.output.decode().splitlines()
+        cases = {it.name: it for it in campaign}
+        wanted = wanted_of(lines, [with_names(cases[it.name], it) for it in legal_blocks(histories.output)])
+        came = [it for it in ran.output.decode().splitlines() if not it.startswith("  not seen: ")]
+        if came != wanted or ran.status != plain.status:
+            at = alike(came, wanted)
+            yield f"line {at + 1}: wanted {wanted[at:at + 3]}, came {came[at:at + 3]}, status {ran.status}"
+        met["cases"] += len(lines)
+        for words in (": alike for ", "  stuck: ", ": call ", ": before it ", "not made", "started before", "no-component", " with "):
+            met[words] += sum(words in it for it in came)
+    yield from below(met, {"cases": BATCHES * CASES_WITH_DETAILS, ": alike for ": 50, "  stuck: ": 50, ": call ": 5, ": before it ": 5, "started before": 5})
+
+
 def judgements(seed: int) -> List[Judgement]:
-    return [Judgement(f"every_verdict_is_told_{seed}", "ttrun explore [--history] < (random scripts)", every_verdict_is_told, (seed,))]
+    return [Judgement(f"every_verdict_is_told_{seed}", "ttrun explore [--history] < (random scripts)", every_verdict_is_told, (seed,)),
+            Judgement(f"details_are_of_the_witnesses_{seed}", "ttrun explore --details < (random scripts)", details_are_of_the_witnesses, (seed,))]

@@ -4,14 +4,13 @@ from collections import Counter
 from typing import Dict, Iterator, List, Optional, Tuple
 
 import reports
-from case import Judgement, Ran, answer, as_lines, below, faults_in, shown_with
+from case import Judgement, Ran, answer, below, faults_in, shown_with
 from courses import NotInTurn, block_in_turn
-from examples import faults_of_history, status_in
+from examples import faults_of_written
 from random_moves import mutated
-from rows import counts_of
 from script_reader import Campaign, given_name, read_script
 from table import STATUSES, VERDICTS
-from texts import Block, Judged, check
+from texts import Block, Judged
 
 IN_TURN = 200
 SIDE_BY_SIDE = 120
@@ -162,13 +161,6 @@ def changed(chance: random.Random, text: bytes) -> bytes:
     return "\n".join(lines).encode()
 
 
-def faults_of_histories(program: str, text: bytes) -> List[str]:
-    """`run --history | check` of a script that is accepted."""
-    ran = answer(program, text, "run", "--history")
-    faults = faults_in(Ran(ran.output, b"", status_in("history", ran.output)), ran) or faults_of_history(read_script(text), ran.output)
-    return faults or faults_in(check(ran.output), answer(program, ran.output, "check"))
-
-
 def blocks_in_turn(campaign: Campaign, stop_on: Optional[str]) -> Tuple[List[Block], str]:
     """The histories of the finished test cases, and the last line of the text report."""
     blocks: List[Block] = []
@@ -177,17 +169,6 @@ def blocks_in_turn(campaign: Campaign, stop_on: Optional[str]) -> Tuple[List[Blo
         if stop_on is not None and VERDICTS.index(blocks[-1].verdict) >= VERDICTS.index(stop_on):
             return blocks, f"stopped after {case.name}"
     return blocks, "complete"
-
-
-def report_of(campaign: Campaign, blocks: List[Block], ending: str) -> bytes:
-    lines: List[str] = []
-    for case, block in zip(campaign, blocks):
-        on = {0: 0, **{it.op.run: it.op.target for it in block.entries if it.op.verb == "start" and it.reply == "ok"}}
-        lines.append(f"testcase {case.name}")
-        for run in sorted(on):
-            lines += [f"run {run} {case.behaviours[run].name} on {on[run]}", *reports.lines_by(block.entries, run)]
-        lines += [*(f"local {at} {it}" for at, it in enumerate(reports.Told(block).locals)), f"verdict {block.verdict}"]
-    return as_lines(*lines) + f"{counts_of(*(it.verdict for it in blocks))}{ending}\n".encode()
 
 
 def reports_of_scripts_in_turn(program: str, seed: int) -> Iterator[str]:
@@ -206,7 +187,7 @@ def reports_of_scripts_in_turn(program: str, seed: int) -> Iterator[str]:
         rule = () if word is None else ("--stop-on", word)
         told = list(map(reports.Told, blocks))
         status = reports.status_for(told)
-        faults = faults_in(Ran(report_of(campaign, blocks, ending), b"", status), answer(program, text, "run", *rule))
+        faults = faults_in(Ran(reports.text_of(told, ending), b"", status), answer(program, text, "run", *rule))
         faults += faults_in(Ran(reports.csv_of(told), b"", status), answer(program, text, "run", "--csv", *rule))
         yield from shown_with(faults, f"words {rule}, the script: {text[:3000].decode()}")
         entries = [it for block in blocks for it in block.entries]
@@ -225,7 +206,7 @@ def histories_of_scripts(program: str, seed: int) -> Iterator[str]:
     chance, met = random.Random(f"side by side {seed}"), Counter()
     for _ in range(SIDE_BY_SIDE):
         text = drawn_script(chance, is_in_turn=False)
-        yield from shown_with(faults_of_histories(program, text), f"the script: {text[:3000].decode()}")
+        yield from shown_with(faults_of_written(program, text), f"the script: {text[:3000].decode()}")
         met["starts"] += text.count(b"start ")
         met["named"] += named_creates(read_script(text))
     yield from below(met, {"starts": 200, "named": 200})
@@ -243,7 +224,7 @@ def changed_scripts_are_judged(program: str, seed: int) -> Iterator[str]:
         else:
             met["accepted"] += 1
             met["named"] += named_creates(read)
-            faults = faults_of_histories(program, text)
+            faults = faults_of_written(program, text)
         yield from shown_with(faults, f"the script: {text[:3000]!r}")
     yield from below(met, {"accepted": 40, "named": 100, **dict.fromkeys(KINDS, 1)})
 

@@ -4,6 +4,7 @@ from typing import Dict, Iterator, List, Tuple
 
 from case import Case, refused
 from examples import bytes_of
+from harness import text_of
 from table import VERDICTS
 from texts import status_of
 
@@ -17,6 +18,11 @@ STOP_ON = "--stop-on takes none, pass, inconc, fail or error"
 def text(lines: str) -> bytes:
     """The bytes of lines that are written with `;`."""
     return (lines.replace(";", "\n") + "\n").encode()
+
+
+def blocks_of(name: str) -> List[List[str]]:
+    """The lines of each block of a file of rows. An empty line is between two; the first is a comment."""
+    return [it.split("\n") for it in text_of(f"tests/program/{name}").rstrip("\n").split("\n\n")[1:]]
 
 
 # Name, how many behaviours, moves, replies.

@@ -6,9 +6,7 @@ usage: tests/program/run.py [--program FILE] [--only WORD] [--seed N] [--list]
 The program is crates/ttrun/out/ttrun, which `rt ci`, `rt run` and ./ttrun leave there. The last line is
 'N passed, M failed'; the status is 0 if nothing failed, otherwise 1, and 3 if there is no program.
 """
-import argparse
 import importlib
-import os
 import sys
 from collections import Counter
 from typing import List
@@ -17,14 +15,13 @@ sys.dont_write_bytecode = True
 
 import sizes
 from case import Test, chosen_tests, run_all
-from examples import TOP
+from harness import words_of
 
 # The modules of tests, each with the fewest that it may have. Those that a seed makes are not counted.
 MODULES = {
-    "rows": 150, "scripts": 100, "words": 62, "devices": 77, "sizes": 57, "terminal": 34, "live": 40, "progress": 32, "examples": 41,
-    "reports": 30, "unrun": 6, "evidence_rows": 145, "compared": 59, "compared_reports": 34, "failed": 50, "chosen_rows": 61,
-    "chosen_blocks": 31, "explain": 430, "documents_run": 2, "car_window": 3, "choosing": 0, "details": 0, "random_moves": 0,
-    "random_scripts": 0, "random_courses": 0}
+    "rows": 150, "scripts": 100, "words": 474, "sizes": 57, "terminal": 111, "progress": 72, "examples": 43,
+    "reports": 36, "evidence_rows": 145, "compared": 143, "chosen_rows": 92, "explain": 775, "car_window": 3, "choosing": 0,
+    "random_moves": 0, "random_scripts": 0, "random_courses": 0}
 
 
 def tests(seed: int) -> List[Test]:
@@ -42,14 +39,8 @@ def tests(seed: int) -> List[Test]:
 
 
 def main() -> int:
-    parser = argparse.ArgumentParser(description="runs the built ttrun as a user does")
-    parser.add_argument("--program", default=os.path.join(TOP, "crates", "ttrun", "out", "ttrun"))
-    given, chosen = chosen_tests(parser, tests)
-    program = os.path.abspath(given.program)
-    if not os.access(program, os.X_OK):
-        print(f"there is no program {program}: ./ttrun --help builds it", file=sys.stderr)
-        return 3
-    return run_all(chosen, program, "ttrun as a user runs it")
+    given, chosen = chosen_tests(words_of("runs the built ttrun as a user does"), tests)
+    return run_all(chosen, given.program, "ttrun as a user runs it")
 
 
 if __name__ == "__main__":

@@ -1,7 +1,8 @@
 """The largest inputs, one more than each limit, and what is refused because memory or threads ran out."""
-from typing import Iterator, List, Tuple
+import subprocess
+from typing import Iterator, List
 
-from case import Case, SomeText, Timed, as_lines, joined, refused
+from case import Case, Judgement, SomeText, Timed, as_lines, joined, refused
 from rows import CSV_HEADER, case_of_verdict, counts_of, csv_of_verdict, evidence_of_verdict, history_of_verdict, text
 from texts import MOST_BYTES_OF_A_HISTORY, MOST_BYTES_OF_A_LIST, MOST_BYTES_OF_A_SCRIPT
 
@@ -19,41 +20,29 @@ def padded_script(length: int) -> bytes:
     return b"#" + b" " * (length - len(PASSING) - 2) + b"\n" + PASSING
 
 
-def longest_list() -> Tuple[bytes, bytes]:
-    """A list of moves that has as many bytes as may be, and its replies."""
-    head, tail, line = b"behaviours 1\n", b"0 create\n", b"0 getverdict\n"
-    count, rest = divmod(MOST_BYTES_OF_A_LIST - len(head) - len(tail), len(line))
-    assert rest == 0
-    return head + line * count + tail, b"none\n" * count + b"made 1\nverdict none\n"
+def filled(head: bytes, after: bytes, line: bytes, tail: bytes, most: int) -> bytes:
+    """A text of that many bytes: the last letter of its head as often as it takes, what comes after it, many lines, and its tail."""
+    count, rest = divmod(most - len(head + after + tail), len(line))
+    return head + head[-1:] * rest + after + line * count + tail
 
 
-def longest_history() -> Tuple[bytes, bytes]:
-    """A history text that has as many bytes as may be, and what is printed for it."""
-    name, line, tail = b"t" * 21, b"0 getverdict -> none\n", b"end none\n"
-    head = b"history 2 " + name + b" 1\n"
-    count, rest = divmod(MOST_BYTES_OF_A_HISTORY - len(head) - len(tail), len(line))
-    assert rest == 0
-    return head + line * count + tail, b"legal %s %d none\n" % (name, count)
-
-
-def longest_evidence() -> bytes:
-    """Evidence that has as many bytes as may be, nearly all of them remarks."""
-    head, line, tail = b"evidence 1 t 1\nbehaviour 0 m", b"0 # x\n", b"\nend none\n"
-    count, rest = divmod(MOST_BYTES_OF_A_HISTORY - len(head) - len(tail), len(line))
-    return head + b"m" * rest + b"\n" + line * count + tail[1:]
+# As many bytes as may be: a list of moves, a history and what is printed for it, and evidence that is nearly all remarks.
+LONGEST_LIST = filled(b"behaviours 1", b"\n", b"0 getverdict\n", b"0 create\n", MOST_BYTES_OF_A_LIST)
+LONGEST_HISTORY = filled(b"history 2 t", b" 1\n", b"0 getverdict -> none\n", b"end none\n", MOST_BYTES_OF_A_HISTORY)
+LEGAL = b"legal %s %d none\n" % (LONGEST_HISTORY.split()[2], LONGEST_HISTORY.count(b"get"))
+LONGEST_EVIDENCE = filled(b"evidence 1 t 1\nbehaviour 0 m", b"\n", b"0 # x\n", b"end none\n", MOST_BYTES_OF_A_HISTORY)
 
 
 def longest() -> Iterator[Case]:
     """Inputs at their limit, and one byte past it."""
-    moves, replies = longest_list()
-    history, legal = longest_history()
-    assert len(moves) == MOST_BYTES_OF_A_LIST and len(history) == MOST_BYTES_OF_A_HISTORY
-    yield Case("longest_list", ("replay",), moves, replies)
-    yield refused("a_list_one_byte_longer", ("replay",), moves + b"\n", TOO_LONG)
-    yield Case("longest_history", ("check",), history, legal)
+    history, replies = LONGEST_HISTORY, b"none\n" * LONGEST_LIST.count(b"get") + b"made 1\nverdict none\n"
+    assert len(LONGEST_LIST) == MOST_BYTES_OF_A_LIST and len(history) == MOST_BYTES_OF_A_HISTORY
+    yield Case("longest_list", ("replay",), LONGEST_LIST, replies)
+    yield refused("a_list_one_byte_longer", ("replay",), LONGEST_LIST + b"\n", TOO_LONG)
+    yield Case("longest_history", ("check",), history, LEGAL)
     yield refused("a_history_one_byte_longer", ("check",), history + b"\n", TOO_LONG)
-    yield Case("longest_evidence", ("check",), longest_evidence(), b"legal t 0 none\n")
-    for name, whole in (("history", history), ("evidence", longest_evidence())):
+    yield Case("longest_evidence", ("check",), LONGEST_EVIDENCE, b"legal t 0 none\n")
+    for name, whole in (("history", history), ("evidence", LONGEST_EVIDENCE)):
         last = whole.count(b"\n")
         for words in (("check",), ("report", "--csv")):
             yield refused(joined(f"the_longest_{name}_with_a_bad_last_line", *words), words, whole[:-2] + b"x\n", f"line {last}: bad entry")
@@ -70,6 +59,36 @@ def longest() -> Iterator[Case]:
                                      ("script", ("run",), MOST_BYTES_OF_A_SCRIPT, f"line {MOST_BYTES_OF_A_SCRIPT + 1}: text ends too early")):
         yield refused(f"a_{name}_that_never_ends", words, b"\n" * (most + 1), TOO_LONG, stays_open=True)
         yield refused(f"a_{name}_of_line_feeds", words, b"\n" * most, fault)
+
+
+def long_texts() -> Iterator[Case]:
+    """Texts of any length, in which each history has the length of a text that is not one."""
+    history, legal, name = LONGEST_HISTORY, LEGAL, LONGEST_HISTORY.split()[2].decode()
+    block = b"history 2 t 1\nend none\n"
+    yield Case("a_long_text", ("check", "--long", "--only", "t*"), history * 2 + block, legal * 2 + b"legal t 0 none\n")
+    yield Case("a_long_text_in_csv", ("report", "--csv", "--long", "--last"), history * 2 + block,
+               CSV_HEADER.encode() + (csv_of_verdict(name, "none") + csv_of_verdict("t", "none")).replace(",none", ",unfinished").encode(), status=2)
+    yield refused("a_bad_line_of_a_long_text", ("report", "--csv", "--long"), history * 2 + b"x\n", f"line {2 * history.count(10) + 1}: bad first line")
+    longer = history.replace(b" t", b" tt", 1)
+    for named, given in (("history_one_byte_longer", longer), ("history_that_never_ends", history[:-9] + b"0 getverdict -> none\n"),
+                        ("line_that_never_ends", b"x" * (len(history) + 1)), ("history_too_long_after_a_bad_line", b"x\nend \n" + longer),
+                        ("rest_too_long_after_a_bad_line", b"x\n" + b"0 # x\n" * (len(history) // 6 + 1))):
+        yield refused(f"a_{named}_in_a_long_text", ("check", "--long"), block + given, TOO_LONG)
+
+
+def faults_of_a_long_text(program: str, *words: str) -> List[str]:
+    """More than 300 MB of histories go through a pipe, in the memory of what is kept of them and of one."""
+    block, count = b"history 2 t 1\n" + b"0 getverdict -> none\n" * 5000 + b"end none\n", 3000
+    sent = 0
+    with subprocess.Popen(["sh", "-c", 'ulimit -v 14000; exec "$@"', "sh", program, *words, "--long"], stdin=subprocess.PIPE,
+                          stdout=subprocess.PIPE) as running:
+        assert running.stdin
+        for _ in range(count):
+            sent += running.stdin.write(block)
+        output = running.communicate()[0]
+    found = (output.count(b"legal t 5000 none\n"), output.count(b",unfinished\n"))
+    right = count in found and running.returncode == (0 if "check" in words else 2) and sent > 300_000_000
+    return [] if right else [f"status {running.returncode}, {sent} bytes, {output[:200]!r}"]
 
 
 def many_behaviours(count: int) -> bytes:
@@ -110,12 +129,19 @@ def waiting(count: int, steps: int) -> bytes:
 def counted() -> Iterator[Case]:
     """As many of a thing as may be, and one more."""
     yield Case("sixty_four_jobs", ("run",), many_behaviours(64), report_of_many(64))
-    for words in ((), ("--live",)):
-        yield Case(joined("two_hundred_and_fifty_six_jobs", *words), ("run", *words), many_behaviours(256), report_of_many(256))
-    yield Case("two_hundred_and_fifty_six_jobs_evidence", ("run", "--evidence"), many_behaviours(256),
-               SomeText(tuple(f"behaviour {at} w{at}\n" for at in range(1, 256))))
-    unstarted = single(["setverdict pass"])[:-len("end\n")] + text(";".join(f"behaviour w{at};end" for at in range(1, 256)) + ";end")
+    told = Timed(text("1/1 t ..;1/1 t pass 0.000 s;1 passed, 0 failed, 0.0 s"))
+    for words, errors in ((), b""), (("--live",), b""), (("--progress",), told):
+        yield Case(joined("two_hundred_and_fifty_six_jobs", *words), ("run", *words), many_behaviours(256), report_of_many(256), errors)
+    runs = range(1, 256)
+    unstarted = single(["setverdict pass"])[:-len("end\n")] + text(";".join(f"behaviour w{at};end" for at in runs) + ";end")
+    for words, script in ((("run", "--evidence"), many_behaviours(256)), (("explore", "--evidence"), unstarted)):
+        yield Case(joined("two_hundred_and_fifty_six_jobs", *words), words, script, SomeText(tuple(f"behaviour {at} w{at}\n" for at in runs)))
     yield Case("two_hundred_and_fifty_six_jobs_searched", ("explore",), unstarted, text("t pass complete"))
+    stuck = ";".join(("history 2 t 256", *(f"0 create -> made {at};0 start {at} {at} -> ok;{at} wait killed {at} -> parked" for at in runs),
+                      "0 wait done all -> parked;0 wake done all -> error stuck;end error"))
+    for form in ("junit", "summary"):
+        yield Case(f"two_hundred_and_fifty_six_stuck_{form}", ("report", f"--{form}"), text(stuck),
+                   SomeText(tuple(f"  stuck: run {at} on {at} waits for killed of {at}, where run {at} is\n" for at in runs)), status=2)
     yield Case("a_thousand_steps", ("run",), single(["setverdict pass"] * 1000), as_lines(
         "testcase t", "run 0 main on 0", *["  setverdict pass -> ok"] * 1000, "  finish -> ok", "local 0 pass", "verdict pass",
         counts_of("pass")[:-1], "complete"))
@@ -151,23 +177,23 @@ def long_report() -> Iterator[Case]:
     call, last = "0 getverdict -> none", ("0 setverdict fail -> ok", "0 finish -> ok")
     given = text(";".join(["history 2 t 1", *[call] * 700_000, *last, "end fail"]))
     calls = "".join(f"  {it[2:]}\n" for it in (*[call] * 700_000, *last))
-    cause = "run 0 on component 0: setverdict fail -> ok"
+    cause = "run 0 on mtc: setverdict fail -> ok"
     yield Case("junit_of_a_long_history", ("report", "--junit"), given, SomeText((cause, calls)), status=1)
     yield Case("summary_of_a_long_history", ("report", "--summary"), given, summary(
-        1, f"t: fail;  {cause};  after:;" + ";".join(["    getverdict -> none"] * 5) + ";  fail: 0"), status=1)
+        1, f"t: fail;  {cause};  after:;" + ";".join(["    getverdict -> none"] * 5) + ";  fail: mtc"), status=1)
     names = ("", " named pump", " named valve_of_the_tank", "")
     made = [f"0 create{names[at % 4]} -> made {at}" for at in range(1, 29)]
     waits = ("0 start 1 1 -> ok", "0 wait done 1 -> parked", "1 setverdict pass -> ok", "1 finish -> ok", "0 wake done 1 -> matched")
     yield Case("summary_of_many_components", ("report", "--summary"), text(";".join(
         ["history 2 t 2", *made, *waits, *[call] * 3, *last, "end fail"])), summary(
-            1, f"t: fail;  {cause};  after:;    start 1 1 -> ok;    wait done 1 -> matched;" + "    getverdict -> none;" * 3
-            + "  fail: 0;  pass: 1 pump;  none: 2 valve_of_the_tank, 3, 4, 5 pump, 6 valve_of_the_tank, 7, 8,;"
+            1, f"t: fail;  {cause};  after:;    start 1 pump run 1 -> ok;    wait done 1 pump -> matched;" + "    getverdict -> none;" * 3
+            + "  fail: mtc;  pass: 1 pump;  none: 2 valve_of_the_tank, 3, 4, 5 pump, 6 valve_of_the_tank, 7, 8,;"
             "    9 pump, 10 valve_of_the_tank, 11, 12, 13 pump, 14 valve_of_the_tank, 15,;"
             "    16, 17 pump, 18 valve_of_the_tank, 19, 20, 21 pump, 22 valve_of_the_tank,;"
             "    23, 24, 25 pump, 26 valve_of_the_tank, 27, 28"), status=1)
     many = "".join(history_of_verdict(f"t{at}", "fail") for at in range(200_000))
     yield Case("summary_of_many_histories", ("report", "--summary"), many.encode(), summary(
-        200_000, ";;".join(f"t{at}: fail;  {cause};  fail: 0" for at in range(200_000))), status=1)
+        200_000, ";;".join(f"t{at}: fail;  {cause};  fail: mtc" for at in range(200_000))), status=1)
     yield Case("page_of_a_long_history", ("report", "--html"), given, SomeText((given.decode(),)), status=1)
 
 
@@ -203,14 +229,14 @@ def most_components() -> Iterator[Case]:
     local = many_of("local 0 fail", *(f"local {at} none" for at in range(1, 1000)))
     block = f"history 2 t 1\n{entries}end fail\n"
     report = f"testcase t\nrun 0 main on 0\n{shown}{local}verdict fail\n{counts_of('fail')}complete\n".encode()
-    cause = "run 0 on component 0: setverdict fail -> ok"
+    cause, listed = "run 0 on mtc: setverdict fail -> ok", ("  fail: mtc\n  none: 1, 2, 3,", " 998, 999\n")
     evidence = f"evidence 1 t 1\nbehaviour 0 main\n{entries}end fail\n".encode()
     for words, wanted in ((("run",), report), (("run", "--live"), report), (("run", "--history"), block.encode()), (("run", "--evidence"), evidence),
-                          (("run", "--junit"), SomeText((cause, shown, local)))):
+                          (("run", "--junit"), SomeText((cause.replace("0", "0 main", 1), shown, *listed)))):
         yield Case(joined("a_thousand_components", *words), words, script, wanted, status=1)
     record = (CSV_HEADER + "t,1000,999,0,0,1,0,fail\n").encode()
-    for form, wanted in (("csv", record), ("junit", SomeText((cause, shown, local))), ("html", SomeText((block,))),
-                         ("summary", SomeText((f"t: fail\n  {cause}\n  after:\n", "  fail: 0\n  none: 1, 2, 3,", " 998, 999\n")))):
+    for form, wanted in (("csv", record), ("junit", SomeText((cause, shown, *listed))), ("html", SomeText((block,))),
+                         ("summary", SomeText((f"t: fail\n  {cause}\n  after:\n", *listed)))):
         yield Case(f"a_thousand_components_report_{form}", ("report", f"--{form}"), block.encode(), wanted, status=1)
     yield Case("a_thousand_components_checked", ("check",), block.encode(), text("legal t 1001 fail"))
     yield Case("a_thousand_components_compared", ("check", "--script"), script + block.encode(), text("legal t 1001 fail"))
@@ -229,10 +255,10 @@ def a_thousand() -> Iterator[Case]:
     script = ";".join(f"testcase {it};behaviour main;setverdict fail;end;end" for it in names)
     blocks = ";".join(f"history 2 {it} 1;0 setverdict fail -> ok;0 finish -> ok;end fail" for it in names)
     records = CSV_HEADER.encode() + b"".join(csv_of_verdict(it, "fail").encode() for it in names)
-    why = "run 0 on component 0: setverdict fail -> ok"
+    why = "run 0 main on mtc: setverdict fail -> ok"
     told = [f"{at}/1000 {it} ..;{at}/1000 {it} fail 0.000 s: {why}" for at, it in enumerate(names, 1)]
     again = [f"failed: {it} fail: {why}" for it in names]
-    yield Case("a_thousand_lines_of_progress", ("run", "--csv", "--progress"), text(script), records, Timed(text(";".join(told + again))), 1)
+    yield Case("a_thousand_lines_of_progress", ("run", "--csv", "--progress"), text(script), records, Timed(text(";".join([*told, *again, "0 passed, 1000 failed, 0.0 s"]))), 1)
     suite = SomeText(('tests="1000" failures="1000"', *(f'testcase name="{it}"' for it in names)))
     yield Case("a_thousand_test_cases_in_junit", ("run", "--junit"), text(script), suite, status=1)
     yield Case("a_thousand_histories_in_junit", ("report", "--junit"), text(blocks), suite, status=1)
@@ -246,28 +272,36 @@ def a_thousand() -> Iterator[Case]:
                errors=SomeText(("line 500001: line not understood", "  line: `frobnicate`", "testcase")))
 
 
+def race(count: int, steps: int, last: str) -> bytes:
+    """That many behaviours that create components, each of which has the next number."""
+    creates = ";".join(f"create q{at}" for at in range(steps))
+    others = ";".join(f"behaviour w{at};{creates};end" for at in range(count))
+    starts = ";".join(f"create p{at};start p{at} w{at}" for at in range(count))
+    return text(f"testcase t;behaviour main;{starts};{last};end;{others};end")
+
+
 def racing() -> Iterator[Case]:
-    """A test case with more states than 16 bits count: three behaviours that create components, each of which has the next number.
-    It is not among the cases, since `rt try` would take minutes for it."""
-    creates = ";".join(f"create q{at}" for at in range(7))
-    others = ";".join(f"behaviour w{at};{creates};end" for at in range(3))
-    starts = ";".join(f"create p{at};start p{at} w{at}" for at in range(3))
-    most = 70_000
-    yield Case("more_states_than_16_bits_count", ("explore", "--states", str(most)), text(f"testcase t;behaviour main;{starts};wait done all;end;{others};end"),
-               text(f"t none undecided after {most} states: limit of states"), status=3)
+    """Test cases with more states than 16 bits count, and than have room in memory. They are not among the cases, since `rt try`
+    would take minutes for them."""
+    yield Case("more_states_than_16_bits_count", ("explore", "--states", "70000"), race(3, 7, "wait done all"),
+               text("t none undecided after 70000 states: limit of states"), status=3)
+    kept = 536_870_912 // (256 + 66 * 20 + 26 * (19 * 22 + 3))
+    yield Case("a_verdict_of_more_states_than_have_room", ("explore",), race(19, 20, "setverdict pass;stop all"),
+               text(f"t pass undecided after {kept} states: limit of memory"), status=3)
 
 
 def unaffordable() -> Iterator[Case]:
     """Memory and threads are refused by a limit on the space for addresses."""
-    history, legal = longest_history()
-    yield refused("no_memory_for_a_history", ("check", "--explain"), history, "no memory", limit="-v 9000")
-    yield Case("little_memory_for_a_history", ("check", "--only", "t*"), history, legal, limit="-v 9000")
-    yield refused("no_memory_for_a_report", ("report", "--csv", "--explain"), history, "no memory", limit="-v 9000")
+    yield refused("no_memory_for_a_history", ("check", "--explain"), LONGEST_HISTORY, "no memory", limit="-v 9000")
+    yield Case("little_memory_for_a_history", ("check", "--only", "t*"), LONGEST_HISTORY, LEGAL, limit="-v 9000")
+    yield Case("little_memory_for_remarks", ("check", "--long"), LONGEST_EVIDENCE, b"legal t 0 none\n", limit="-v 9000")
+    yield refused("no_memory_for_a_report", ("report", "--csv", "--explain"), LONGEST_HISTORY, "no memory", limit="-v 9000")
+    yield refused("no_memory_for_a_long_report", ("report", "--csv", "--long"), LONGEST_EVIDENCE, "no memory", limit="-v 14000")
     first = (case_of_verdict("t", "pass") + counts_of("pass") + "aborted at u: no thread\n").encode()
     line, begun = b"ttrun: aborted at u: no thread\n", text("1/2 t ..;1/2 t pass 0.000 s;2/2 u ..")
     evidence, history = evidence_of_verdict("t", "pass").encode(), history_of_verdict("t", "pass").encode()
     for name, options, output, errors, redirect in (
-            ("", "", first, line, ""), ("_csv", "--csv", PASSED, line, ""), ("_progress", "--csv --progress", PASSED, Timed(begun + line), ""),
+            ("", "", first, line, ""), ("_csv", "--csv", PASSED, line, ""), ("_progress", "--csv --progress", PASSED, Timed(begun + b"1 passed, 0 failed, 0.0 s\n" + line), ""),
             ("_history", "--history", history, line, ""), ("_evidence", "--evidence", evidence, line, ""),
             ("_and_no_output", "", b"", b"ttrun: write fault\n", ">/dev/full"), ("_untold", "", first, b"", "2>/dev/full")):
         yield Case(f"no_thread{name}", ("run", *options.split()), ABORTED, output, errors, 3, redirect, limit="-v 40000")
@@ -276,4 +310,9 @@ def unaffordable() -> Iterator[Case]:
 
 def cases() -> List[Case]:
     """All of them, except for the search of many states."""
-    return [*longest(), *counted(), *long_report(), *long_case(), *most_components(), *a_thousand(), *unaffordable()]
+    return [*longest(), *long_texts(), *counted(), *long_report(), *long_case(), *most_components(), *a_thousand(), *unaffordable()]
+
+
+def judgements(_: int) -> List[Judgement]:
+    return [Judgement(joined("a_text_of_300_megabytes", *words), f"ttrun {' '.join(words)} --long < (300 MB)", faults_of_a_long_text, words)
+            for words in (("check",), ("report", "--csv"))]

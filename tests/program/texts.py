@@ -1,12 +1,11 @@
 """The texts of docs/texts.md in Python: move lists, histories and evidence, what is printed for them, and their first faults."""
 import re
 from dataclasses import dataclass
-from typing import List, NamedTuple, Optional, Set, Tuple
+from typing import List, NamedTuple, Optional, Sequence, Set, Tuple
 
 from table import FAULTS, MOST_BEHAVIOURS, VERDICTS, Op, Table, Target
 
-MOST_BYTES_OF_A_LIST = 1_048_576
-MOST_BYTES_OF_A_SCRIPT = 1_048_576
+MOST_BYTES_OF_A_LIST = MOST_BYTES_OF_A_SCRIPT = 1_048_576
 MOST_BYTES_OF_A_HISTORY = 16_777_216
 
 NUMBER = "(?:0|[1-9][0-9]*)"
@@ -127,9 +126,18 @@ class Entry:
         return f"{self.caller} {self.op.text()} -> {self.reply}"
 
 
+class Said(NamedTuple):
+    """A line that is no entry: a remark (`#`), a refused line (`!`), or without a mark the name of a behaviour."""
+
+    run: int
+    mark: str
+    text: str
+
+
 @dataclass
 class Block:
-    """The history or the evidence of one test case, with the number of its last line."""
+    """The history or the evidence of one test case, with the number of its last line, and what each line says that is no entry, with
+    how many entries are before it."""
 
     format: str
     name: str
@@ -137,6 +145,7 @@ class Block:
     entries: List[Entry]
     last_line: int
     verdict: str
+    said: Sequence[Tuple[int, Said]] = ()
 
 
 def read_header(line: str) -> Optional[Tuple[str, str, int]]:
@@ -165,14 +174,6 @@ def runs_of(entry: Entry) -> Set[int]:
     return {entry.caller, entry.op.run} if entry.op.verb == "start" else {entry.caller}
 
 
-class Said(NamedTuple):
-    """A line that is no entry: a remark (`#`), a refused line (`!`), or without a mark the name of a behaviour."""
-
-    run: int
-    mark: str
-    text: str
-
-
 def read_said(line: str, behaviours: int, met: Set[int]) -> Optional[Said]:
     """What a line says of a run, if it may be there; these are the runs about which there was a line: they are named no more."""
     naming, said = NAMING.fullmatch(line), SAID.fullmatch(line)
@@ -182,31 +183,37 @@ def read_said(line: str, behaviours: int, met: Set[int]) -> Optional[Said]:
     return found
 
 
-def read_history(text: bytes) -> Tuple[List[Block], Optional[Judged]]:
-    """The blocks of a text of histories and evidence, or the refusal of its first fault."""
+def read_blocks(text: bytes) -> Tuple[List[Block], Optional[Tuple[int, str]]]:
+    """The whole blocks of a text of histories and evidence, up to its first fault, and the line and kind of that."""
     lines = lines_of(text)
     blocks: List[Block] = []
     header: Optional[Tuple[str, str, int]] = None
     entries: List[Entry] = []
+    others: List[Tuple[int, Said]] = []
     met: Set[int] = set()
     for number, line in enumerate(lines, 1):
         if header is None:
-            header, entries, met = read_header(line), [], set()
+            header, entries, others, met = read_header(line), [], [], set()
             if header is None:
-                return [], refused(number, "bad first line")
+                return blocks, (number, "bad first line")
         elif line.startswith("end ") and line[4:] in VERDICTS:
-            blocks.append(Block(*header, entries, number, line[4:]))
+            blocks.append(Block(*header, entries, number, line[4:], others))
             header = None
         else:
             entry = read_entry(number, line, header[0])
             said = read_said(line, header[2], met) if entry is None and header[0] == EVIDENCE else None
             if entry is None and said is None:
-                return [], refused(number, "bad entry")
+                return blocks, (number, "bad entry")
             entries += [entry] if entry else []
+            others += [(len(entries), said)] if said else []
             met |= runs_of(entry) if entry else {said.run}
-    if header is not None or not lines:
-        return [], refused(len(lines) + 1, "text ends too early")
-    return blocks, None
+    return blocks, (len(lines) + 1, "text ends too early") if header is not None or not lines else None
+
+
+def read_history(text: bytes) -> Tuple[List[Block], Optional[Judged]]:
+    """The blocks of such a text, or the refusal of its first fault."""
+    blocks, fault = read_blocks(text)
+    return ([], refused(*fault)) if fault else (blocks, None)
 
 
 def legal_blocks(text: bytes) -> List[Block]:

@@ -1,12 +1,11 @@
 """Command lines: help in all its spellings, and words that are refused before any input is read."""
-import os
 import re
 import shlex
 from typing import Iterator, List, Tuple, Union
 
-from case import Case, Judgement, SomeText, Wanted, Word, answer, as_lines, joined, refused
-from examples import TOP
-from rows import ONLY, SHARD, STOP_ON, text
+from case import Case, Judgement, SomeText, Word, answer, as_lines, joined, refused
+from harness import text_of
+from rows import ONLY, SHARD, STOP_ON, blocks_of, text
 
 COMMANDS = ("run", "serve", "check", "replay", "explore", "report", "\n  ttrun run < FILE\nNo argument at all means run.\n",
             "Each command reads standard input and writes standard output:\n",
@@ -20,20 +19,21 @@ EXPLAIN = "says more of the fault of a refused text\n"
 NO_EXPLAIN = "says no more of it, also at a terminal\n"
 # A line for each option, as it is in the help.
 ALL_OPTIONS = ("runs the campaign of a script, and writes its report\n",
-               "  --csv                writes the report as CSV\n",
-               "  --history            writes the histories of the test cases\n",
-               "  --evidence           writes the histories with the names of behaviours\n",
-               "  --junit              writes the report as a JUnit suite\n",
-               "  --suite <NAME>       calls the JUnit suite NAME instead of ttrun\n",
-               "  --live               writes each test case as it finishes\n",
-               "  --progress           reports each test case on standard error\n",
-               "  --stop-on <VERDICT>  stops after a test case with this verdict or worse\n",
-               "  --list               prints the names of the test cases, and runs none\n",
-               "  --only <NAME>        runs this test case; may be given again, for others\n",
-               "  --shard <K/N>        runs the K-th of N shards of the test cases\n",
-               "  --failed             leaves out what passed by evidence after the script\n",
-               "  --last               counts only the last history of each name\n",
-               "  --explain            " + EXPLAIN, "  --no-explain         " + NO_EXPLAIN,
+               "  --csv                    writes the report as CSV\n",
+               "  --history                writes the histories of the test cases\n",
+               "  --evidence               writes histories with the names of behaviours\n",
+               "  --junit                  writes the report as a JUnit suite\n",
+               "  --suite <NAME>           calls the JUnit suite NAME instead of ttrun\n",
+               "  --times                  gives the JUnit suite times\n",
+               "  --live                   writes each test case as it finishes\n",
+               "  --progress [<failures>]  reports all, or failures, on standard error\n",
+               "  --stop-on <VERDICT>      ends after a test case of this verdict or worse\n",
+               "  --list                   prints the names of test cases, and runs none\n",
+               "  --only <NAME>            runs this test case; may be given several times\n",
+               "  --shard <K/N>            runs the K-th of N shards of the test cases\n",
+               "  --failed                 leaves out what passed by evidence in the input\n",
+               "  --last                   counts only the last history of each name\n",
+               "  --explain                " + EXPLAIN, "  --no-explain             " + NO_EXPLAIN,
                "Standard input is a script: ttrun run < FILE. Standard output is the report.\n"
                "With --failed it is a script, and after it histories or evidence of its test\n"
                "cases: cat FILE EVIDENCE | ttrun run --failed runs those that are missing, are\n"
@@ -44,47 +44,45 @@ ALL_OPTIONS = ("runs the campaign of a script, and writes its report\n",
                "Status: 0 for none and pass, 1 for inconc and fail, 2 for error, 3 for an\nabort or a refusal.\n")
 EXPLORE = ("looks for every overall verdict that a test case can have\n",
            "  --history      writes a history for each verdict that was found\n",
+           "  --evidence     writes these histories with the names of behaviours\n",
            "  --details      says where schedules part and who waits for whom\n",
            "  --locals       says which local verdicts are not always the same\n",
            "  --states <N>   looks at N states of a test case at most\n",
            "  --only <NAME>  explores this test case; may be given again, for others\n",
            "  --shard <K/N>  explores the K-th of N shards of the test cases\n",
-           "  --failed       leaves out what passed by evidence after the script\n",
+           "  --failed       leaves out what passed by evidence in the input\n",
            "  --last         counts only the last history of each name\n",
            "  --explain      " + EXPLAIN, "  --no-explain   " + NO_EXPLAIN,
            "Standard input is a script: ttrun explore < FILE. Standard output is a line\n"
            "for each test case: its name, the verdicts found, and how the search ended.\n"
            "N is from 1 to 1000000, and 100000 without --states. --only, --shard and\n--failed choose test cases as those of run do, with --last too.\n",
            "Status: 0 if each test case has one verdict, 1 if one has several, 2 if one\nhas no verdict but error, 3 if a search met its limit, or for a refusal.\n")
+# The options of `report` and `check`, each with a column of its own width.
+OF_HISTORIES = (("--script", "reads their script first, and compares them with it\n"), ("--only <NAME>", "chooses this test case; may be given again, for others\n"),
+                ("--shard <K/N>", "awaits the K-th of N shards of the test cases\n"), ("--failed", "leaves out what has the verdict none or pass\n"),
+                ("--last", "counts only the last history of each name\n"), ("--long", "takes any number of histories, 16 MiB each at most\n"),
+                ("--explain", EXPLAIN), ("--no-explain", NO_EXPLAIN))
 REPORT = ("reads histories, and writes them in one of these forms\n",
+          "  --text          writes the text report\n",
           "  --csv           writes a table as CSV\n", "  --junit         writes a JUnit suite\n",
           "  --suite <NAME>  calls the JUnit suite NAME instead of ttrun\n",
           "  --html          writes a page for a browser\n",
           "  --summary       writes the counts, and why test cases failed\n",
-          "  --script        reads their script first, and compares them with it\n",
-          "  --only <NAME>   chooses this test case; may be given again, for others\n",
-          "  --shard <K/N>   awaits the K-th of N shards of the test cases\n",
-          "  --failed        leaves out what has the verdict none or pass\n",
-          "  --last          counts only the last history of each name\n", "  --explain       " + EXPLAIN,
-          "  --no-explain    " + NO_EXPLAIN,
+          *(f"  {option:16}{said}" for option, said in OF_HISTORIES),
           "Standard input is histories or evidence: ttrun report --csv < FILE. Nothing is\n"
           "written to standard output if one of them is not legal. --only and --failed\n"
           "choose as those of check do, with --last too, but not for --html. With\n"
           "--script the input is what check --script reads, and --only and --shard choose\n"
           "as there. Test cases that are missing come last, and the lines of check\n"
-          "--script go to standard error.\n",
+          "--script go to standard error. --long is as for check, without --text and\n--html.\n",
           "Status: 0 for none and pass, 1 for inconc and fail, 2 for error and for a test\n"
           "case that is not over, 3 if a history is not legal, for such a line, or for a\nrefusal.\n")
 CHECK = ("replays histories and evidence, and says which are legal\n",
-         "  --script       reads their script first, and compares them with it\n",
-         "  --only <NAME>  chooses this test case; may be given again, for others\n",
-         "  --shard <K/N>  awaits the K-th of N shards of the test cases\n",
-         "  --failed       leaves out what has the verdict none or pass\n",
-         "  --last         counts only the last history of each name\n", "  --explain      " + EXPLAIN,
-         "  --no-explain   " + NO_EXPLAIN,
+         *(f"  {option:15}{said}" for option, said in OF_HISTORIES),
          "Standard input is histories or evidence: ttrun check < FILE. Standard output\n"
          "has a line for each, and none after the first that is not legal. --only, as\n"
-         "for run, and --failed leave out lines of legal ones. With --last only the last\nof each name counts.\n"
+         "for run, and --failed leave out lines of legal ones. With --last only the last\nof each name counts."
+         " With --long the input may have any length, and each\nhistory 16 MiB; no fault is explained.\n"
          "With --script the input is a script, and after it histories or evidence of its\n"
          "test cases: cat FILE EVIDENCE | ttrun check --script. With --only and --shard,\n"
          "as for run, it is as if the script had only these test cases. --failed is not\n"
@@ -127,10 +125,12 @@ MISTAKES = """\
 a value is required for '{valued}' but none was supplied
     explore --states, run --only, run --only --list, run --shard, run --stop-on, run --stop-on --csv, run --stop-on --live, run --junit --suite,
     check --script --shard, check --only, explore --only
-one of the arguments '--csv', '--junit', '--html' and '--summary' is needed
+one of the arguments '--text', '--csv', '--junit', '--html' and '--summary' is needed
     report, report --, report --explain, report --suite a, report --only a, report --failed, report --script --only a
 the argument '--suite' needs '--junit'
     report --csv --suite a, report --suite 7 --summary, run --suite a, run --suite 7 --stop-on no, run --list --suite a
+the argument '--times' needs '--junit'
+    run --times, run --times --csv, run --list --times, run --times --progress --live, run --failed --times --stop-on no
 the argument '--last' needs '--failed'
     run --last, run --list --last, explore --last, explore --last --only a
 the arguments '--shard', and '--only' with '--html', need '--script'
@@ -138,20 +138,20 @@ the arguments '--shard', and '--only' with '--html', need '--script'
     report --shard 1/2
 the argument '{twice}' cannot be used multiple times
     run --junit --suite a --suite b, report --summary --summary, check --explain --explain, check --no-explain --no-explain, check --script --script,
-    check --script --shard 1/2 --shard 1/2, check --failed --failed, check --last --last, explore --details --details,
+    check --script --shard 1/2 --shard 1/2, check --long --long, check --failed --failed, check --last --last, explore --details --details,
     explore --locals --locals,
     explore --history --history, explore --states 1 --states 1, report --csv --csv, report --html --html, report --failed --failed --csv,
     report --junit --junit, run --csv --csv, run --evidence --evidence, run --failed --failed, explore --shard 1/2 --shard 1/2,
     run --history --history, run --junit --junit, run --list --list, run --live --live, run --progress --progress, run --shard 1/2 --shard 1/2,
-    run --stop-on pass --stop-on pass
+    run --stop-on pass --stop-on pass, run --junit --times --times
 unexpected value 'yes' for '{option}' found; no more were expected
-    run --csv=yes, run --junit=yes, run --list=yes, run --live=yes, run --progress=yes
+    run --csv=yes, run --junit=yes, run --list=yes, run --live=yes, run --junit --times=yes
 unrecognized subcommand '{last}'
     '', Run, chec, frobnicate, help a.script, help more, help run check, list, repla, version
 unexpected argument '{last}' found
     check --summary, run --summary, -- run, --csv, --explain, --frobnicate, --junit, --list, --live, --progress, -x, check --csv, check --evidence,
-    check --html, check --junit, check --live, check --progress, check more, explore --csv, explore --evidence, explore --progress, explore more,
-    replay --list, replay --live, replay more, report --evidence, report --history, report --live, report more, serve --explain, serve --no-explain,
+    check --html, check --junit, check --live, check --progress, check --times, check more, explore --csv, explore --progress, explore --times, explore more,
+    replay --list, replay --live, replay more, report --evidence, report --history, report --live, report --junit --times, report more, serve --explain, serve --no-explain,
     serve --evidence, serve --history, serve more, run '', run -, run -- --csv, run -- --live, report --chart, run --chart, run --cs, run --x.y,
     run --a/b, run --csv check, run --details, run --html, run --liv, run --live more, run --only a b, run --version, run -V, run -c, run check,
     run help, run more
@@ -171,7 +171,11 @@ unexpected argument '-c' found
 
 # Two options that are not taken together, in the order in which they are said, and command lines that have both.
 CONFLICTS = """\
-list junit: run --list --junit --suite a, run --list --junit
+list junit: run --list --junit --suite a, run --list --junit, run --list --junit --times
+text csv: report --csv --text, report --text --junit --csv
+text junit: report --junit --text
+text html: report --html --text
+text summary: report --summary --text
 csv summary: report --csv --summary
 html summary: report --summary --html
 junit summary: report --summary --junit --suite a
@@ -180,28 +184,34 @@ explain no-explain: check --explain --no-explain, check --no-explain --script --
 script failed: check --failed --script, report --csv --script --failed
 history details: explore --details --history, explore --locals --details --history, explore --history --states=1 --details
 history locals: explore --locals --history
+evidence details: explore --details --evidence
+evidence locals: explore --locals --evidence --only a
 csv junit: report --csv --junit, report --explain --csv --junit, report --junit --csv, run --junit --csv
 csv html: report --html --csv
 junit html: report --html --junit
 html failed: report --failed --html, report --html --failed --only a
 html last: report --last --html, report --html --script --last
+script long: check --long --script, report --csv --script --long
+text long: report --long --text
+html long: report --html --long
+explain long: check --long --explain, report --explain --junit --long
 csv evidence: run --csv --evidence, run --evidence --csv
 csv history: run --csv --history, run --csv --history --junit, run --csv --history --stop-on no, run --csv --live --history, run --history --csv,
     run --history --stop-on pass --csv, run --live --csv --history
 list csv: run --csv --list --only a, run --list --csv
-history evidence: run --evidence --history, run --history --evidence, run --live --evidence --history
+history evidence: explore --evidence --history, run --evidence --history, run --history --evidence, run --live --evidence --history
 evidence junit: run --evidence --junit, run --junit --evidence
 list evidence: run --evidence --list, run --list --evidence
 history junit: run --history --junit, run --junit --history
 list history: run --history --list, run --list --history
-junit live: run --junit --live, run --live --junit, run --progress --junit --live
+junit live: run --junit --live, run --live --junit, run --progress --junit --live, run --times --junit --live
 list live: run --list --live, run --live --list
 list progress: run --list --progress, run --progress --list
 list stop-on: run --list --stop-on fail
 """
 
 # Options with a value, as a refusal shows them.
-SHOWN = {"--suite": "--suite <NAME>", "--only": "--only <NAME>", "--shard": "--shard <K/N>", "--states": "--states <N>",
+SHOWN = {"--suite": "--suite <NAME>", "--progress": "--progress [<failures>]", "--only": "--only <NAME>", "--shard": "--shard <K/N>", "--states": "--states <N>",
          "--stop-on": "--stop-on <VERDICT>"}
 
 
@@ -240,6 +250,7 @@ NAMED = text("testcase t;behaviour main;end;end")
 
 SUITE = "--suite takes 1 to 32 letters, digits or _, a letter first"
 STATES = "--states takes a number from 1 to 1000000"
+PROGRESS = "--progress takes failures, or no value"
 
 # Of several faults the first is printed: of the shard, of a word that is no name, of the suite, of the stopping rule, of the
 # text, and then of the names.
@@ -272,6 +283,7 @@ ORDERED: List[Tuple[str, bytes, str]] = [
 NAMELESS: List[Tuple[str, Tuple[str, ...]]] = [
     (STOP_ON, ("run --stop-on ", "run --stop-on -", "run --stop-on=--csv", "run --stop-on=--live", "run --stop-on run", "run --stop-on help",
                "run --stop-on no --only a")),
+    (PROGRESS, ("run --progress=yes", "run --progress= --only a", "run --csv --progress all", "run --progress a.script --csv")),
     (SHARD, ("run --list --shard 0/1", "run --shard 1/02", "run --shard=many", "run --only a --shard= --only 1", "run --stop-on fail --shard 3/2",
              "run --stop-on no --shard 3/2")),
     (SUITE, ("run --junit --suite=", "run --junit --suite 1", "run --suite a-b --junit", "report --junit --suite all",
@@ -315,76 +327,23 @@ NOT_UTF8: List[Tuple[str, Tuple[Word, ...]]] = [
 
 # A test case of two verdicts, whose search needs more states than one.
 RACE = text("testcase t;behaviour main;create p;start p w;kill p;end;behaviour w;setverdict fail;end;end")
-# Another, each of whose searches needs three states.
-LOOSE = text("testcase t;behaviour main;create p;start p w;end;behaviour w;setverdict fail;end;end")
-# One whose worker makes a component after it has set its verdict.
-MAKING = LOOSE.replace(b"fail\n", b"fail\ncreate q\n")
-# Its worker waits for its own end, and nobody comes after that.
-DEAD = text("testcase t;behaviour main;create p alive;start p w;wait done p;setverdict pass;end;behaviour w;wait killed self;end;end")
-DEAD_TOLD = text("t error complete;  error: mtc error, 1 none;  stuck: run 0 on mtc waits for done of 1, where run 1 is;"
-                 "  stuck: run 1 on 1 waits for killed of 1, where run 1 is;  not seen: run 0 from step 4 of 4 on: setverdict pass")
-# Half a search prints no step as one that no schedule carries out.
-HALF_TOLD = DEAD_TOLD[: DEAD_TOLD.index(b"  not seen")].replace(b"complete", b"undecided after 1 states: limit of states")
-# The worker sets a verdict before it is killed, or not.
-KILLED = text("testcase t;behaviour main;create p named worker;start p w;setverdict fail;kill p;end;behaviour w;setverdict pass;end;end")
-KILLED_TOLD = b"t fail complete\n  local 1 worker: none or pass\n"
-# The main component waits for the end of one that is stopped, and stays alive.
-STOPPED = text("testcase u;behaviour main;create p alive;start p w;wait done p;wait killed p;end;behaviour w;end;end")
-STOPPED_TOLD = text("u error complete;  error: mtc error, 1 none;  stuck: run 0 on mtc waits for killed of 1, stopped")
-# Component 3 has the name x or y, whichever is created first.
-NAMED_BY_ORDER = text("testcase t;behaviour main;create p;create q;start p one;start q two;wait done all;end;"
-                      "behaviour one;create c named x;start c three;end;behaviour two;create c named y;end;"
-                      "behaviour three;setverdict fail;end;end")
-# Of this no step is dead.
-PLAIN = text("testcase t;behaviour main;create p;start p w;wait done p;end;behaviour w;setverdict pass;end;end")
-# A race of which one side has thirteen entries, and twelve rows are shown.
-LONG = LOOSE.replace(b"fail\n", b"fail\n" + b"getverdict\n" * 10)
-LONG_TOLD = as_lines(
-    "t none fail complete", "  none: mtc none, 1 none", "  fail: mtc none, 1 fail", "  none and fail: alike for 2 entries",
-    f"  {'none':<36} | fail", f"  {'0 finish -> ok':<36} | 1 setverdict fail -> ok",
-    f"  {'1 setverdict fail -> ended':<36} | 1 getverdict -> fail", *(f"  {'':<36} | 1 getverdict -> fail",) * 9,
-    f"  {'':<36} | 1 finish -> ok", "  ..")
-
-# Name, options, script, output, status.
-EXPLORED: List[Tuple[str, str, bytes, Wanted, int]] = [
-    ("one_state_decides_nothing", "--states 1", RACE, SomeText(("t none fail undecided",)), 3),
-    ("two_states_are_not_complete", "--states 2", LOOSE, b"t none fail undecided after 2 states: limit of states\n", 3),
-    ("three_states_are_complete", "--states 3", LOOSE, b"t none fail complete\n", 1),
-    ("the_worst_verdict_is_found_first", "--states 3", MAKING, b"t none fail undecided after 3 states: limit of states\n", 3),
-    ("a_race_is_told_complete", "", RACE, b"t none fail complete\n", 1),
-    ("steps_behind_a_wait_are_dead", "--details", DEAD, DEAD_TOLD, 2),
-    ("a_stopped_component_is_waited_for", "--details", STOPPED, STOPPED_TOLD, 2),
-    ("only_an_error_next_to_a_race", "", LOOSE + STOPPED, b"t none fail complete\nu error complete\n", 2),
-    ("half_a_search_next_to_an_error", "--states 1", STOPPED + LOOSE, SomeText(("u error", "t none fail undecided")), 3),
-    ("a_long_race_is_cut", "--details", LONG, LONG_TOLD, 1),
-    ("no_step_is_dead", "--details", PLAIN, b"t pass complete\n  pass: mtc none, 1 pass\n", 0),
-    ("no_step_is_told_dead_by_half_a_search", "--details --states 1", DEAD, HALF_TOLD, 3),
-    ("local_verdicts_that_differ", "--locals", KILLED, KILLED_TOLD, 0),
-    ("local_verdicts_before_details", "--locals --details", KILLED, KILLED_TOLD + b"  fail: mtc fail, 1 worker pass\n", 0),
-    ("a_component_of_two_names_has_none", "--locals", NAMED_BY_ORDER, text("t fail complete;  local 3: none or fail;  local 4: none or fail"), 0),
-    ("no_local_verdict_differs", "--locals", PLAIN, b"t pass complete\n", 0),
-    ("local_verdicts_of_half_a_search", "--locals --states 2", KILLED,
-     text("t fail undecided after 2 states: limit of states;  local verdicts undecided after 2 states"), 3),
-    ("only_the_search_for_local_verdicts_ends_early", "--locals --states 3", KILLED,
-     text("t fail complete;  local verdicts undecided after 3 states"), 0),
-]
 
 
 def version_line() -> bytes:
     """The line of the version, which is that of the newest changes."""
-    with open(os.path.join(TOP, "CHANGELOG.md"), encoding="utf-8") as changes:
-        version = re.search(r"^## ([0-9]+\.[0-9]+\.[0-9]+),", changes.read(), re.MULTILINE).group(1)
+    version = re.search(r"(?m)^## (\d+\.\d+\.\d+),", text_of("CHANGELOG.md"))[1]
     return f"ttrun {version}\n".encode()
 
 
 def of_explore() -> Iterator[Case]:
-    """The words of `explore`, and its output where it can't be written."""
+    """The words of `explore`, the rows of explored.txt, and its output where it can't be written."""
     forms: Tuple[Tuple[str, ...], ...] = ((), ("--history",), ("--details",), ("--locals",))
     for word in ("0", "x", "", "01", "1000001"):
         for form in forms:
             yield unread("_".join(["unread_with_states", word or "empty", *form]), ("explore", *form, "--states", word), STATES)
-    for name, options, given, output, status in EXPLORED:
-        yield Case(name, ("explore", *options.split()), given, output, status=status)
+    for head, script, *output in blocks_of("explored.txt"):
+        name, command, status = re.split(": |, status ", head)
+        yield Case(name, tuple(command.split()), text(script), as_lines(*output), status=int(status))
     for form in forms:
         for device, redirect in (("full", ">/dev/full"), ("closed", ">&-")):
             yield refused(joined(f"output_{device}_explore", *form), ("explore", *form), RACE, "write fault", redirect=redirect)

@@ -9,6 +9,7 @@ import sys
 import threading
 import time
 from typing import Callable, Iterator, List
+from unittest.mock import patch
 
 import evidence
 from document_tests import README
@@ -111,11 +112,8 @@ def a_thread_that_cannot_be_made(place: Place) -> None:
     def worker(run: Run) -> None:
         run.set_verdict("pass")
 
-    threading.Thread.start = start  # type: ignore[method-assign]
-    try:
+    with patch.object(threading.Thread, "start", start):
         result = timed(lambda: place.run("t_thread", alone(worker)), 10)
-    finally:
-        threading.Thread.start = starts  # type: ignore[method-assign]
     same((result.verdict, result.hung, [it.run for it in result.raised]), ("error", (), [0]))
     holds_word("run 0 main on mtc: stopcase: RuntimeError: can't start new thread", result.why)
     place.reach("entries", len(legal(result).entries), 3)

@@ -13,7 +13,7 @@ sys.path[:0] = [CLIENT, os.path.join(TESTS_FOLDER, "serve"), os.path.join(TESTS_
 import evidence
 from filskeam import Result, Server
 from filskeam.words import Behaviour
-from holding import ServerRoom, hold, same
+from holding import ServerRoom, hold
 
 SECONDS = 240
 # How long a behaviour that hangs is waited for, in these tests; and how long any other may take to return, or a server to end.
@@ -29,7 +29,7 @@ class Place(ServerRoom):
     reached: List[str] = field(default_factory=list)
 
     def server(self, **more: object) -> Server:
-        return Server(**{"command": self.command, "grace": GRACE, **more})
+        return Server(**{"command": None if self.command[0] == "library" else self.command, "grace": GRACE, **more})
 
     def run(self, name: str, main: Behaviour, timeout: float = SECONDS, **more: object) -> Result:
         """The result of a test case on a server of its own."""
@@ -51,17 +51,11 @@ class Place(ServerRoom):
 
     def blocks(self, name: str) -> List[evidence.Block]:
         """The evidence in a file, which must be legal."""
-        found = evidence.blocks_of(self.text(name))
-        hold(evidence.is_legal(found), f"{name} is not legal")
-        return found
+        return evidence.legal_blocks(self.text(name))
 
 
 def legal(result: Result) -> evidence.Block:
-    blocks = evidence.blocks_of(result.evidence)
-    same(len(blocks), 1, "blocks:")
-    hold(evidence.is_legal(blocks), f"the evidence is not legal: {result.evidence}")
-    same((result.verdict, blocks[0].refused), (blocks[0].verdict, []), "the verdict, and refused lines:")
-    return blocks[0]
+    return evidence.whole_block(result.evidence, result.verdict)
 
 
 def timed(call: Callable[[], Result], most: float) -> Result:

@@ -3,11 +3,13 @@
 
 usage: tests/python/run.py [--server COMMAND] [--only WORD] [--jobs N] [--list]
 
-To test over the program: --server "crates/ttrun/out/ttrun serve". The last line is 'N passed, M failed', and says how many
+To test over the program: --server "crates/ttrun/out/ttrun serve". With --server "library FOLDER", as ./ttrun --library prints it,
+the tests run over the table in this process, except those that are about a server. The last line is 'N passed, M failed', and says how many
 were skipped if some were; the status is 0 if nothing failed, otherwise 1. With the variable FILSKEAM_CLIENT the client is
 taken from that folder.
 """
 import itertools
+import os
 import sys
 import tempfile
 from concurrent.futures import ThreadPoolExecutor
@@ -20,11 +22,14 @@ import kit
 import holding
 from case import lanes
 
-holding.load("device_tests", "document_tests", "ending_tests", "random_tests", "runner_tests", "server_tests", "word_tests")
+holding.load("document_tests", "ending_tests", "server_tests", "word_tests")
 
-FEWEST = 55
-# Tests that change what the whole process has, or measure: they run one by one, after the others.
-ALONE = ("the_program_is_found", "calls_in_a_second")
+FEWEST = 54
+# Tests that change what the whole process has: they run one by one, after the others.
+ALONE = ("the_program_is_found",)
+# The modules of tests that a table in this process runs too, and those of their tests that are about a server.
+BOTH_WAYS = ("ending_tests", "word_tests")
+OF_PIPES = ("a_case_past_its_time_out_is_no_pass", "a_forked_child_keeps_no_pipe", "a_bench_that_is_interrupted_leaves_its_evidence")
 
 
 def reached(name: str, command: Sequence[str]) -> str:
@@ -41,6 +46,9 @@ def main() -> int:
     parser.add_argument("--jobs", type=int, default=lanes(), help="how many run side by side")
     given, [tests] = holding.chosen(parser, (holding.TESTS, FEWEST))
     command = holding.command_of(given)
+    if command[0] == "library":
+        os.environ["FILSKEAM_LIBRARY"] = os.path.join(command[1], "libfilskeam.so")
+        tests = [it for it in tests if holding.TESTS[it].__module__ in BOTH_WAYS and it not in OF_PIPES]
 
     def judged(name: str) -> holding.Answer:
         return holding.answer_of(name, lambda: reached(name, command))

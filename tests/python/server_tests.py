@@ -4,6 +4,7 @@ import shutil
 import sys
 import time
 from typing import List
+from unittest.mock import patch
 
 import evidence
 from filskeam import DynamicError, NoProgram, Refused, Run, Server, ServerEnded
@@ -63,7 +64,7 @@ def a_server_that_is_killed(place: Place) -> None:
         same((result.verdict, result.fault, result.why), ("error", "the server ended with signal 9", "the server ended with signal 9"))
         same((sorted(ended), result.hung, result.raised), ([0, 1, 2, 3, 4, 5], (), ()))
         lines = result.evidence.splitlines()
-        hold(evidence.is_legal(evidence.blocks_of(result.evidence + "end pass\n")), "the evidence so far is not legal")
+        evidence.legal_blocks(result.evidence + "end pass\n")
         legal(server.run("t_next", main_that_calls))
         same(server.close(), 3, "the status:")
     place.reach("lines", len(lines), 17)
@@ -173,7 +174,7 @@ def a_refused_line_changes_nothing(place: Place) -> None:
 
     def main(run: Run) -> None:
         for words in ("fly", "setverdict error", "wake done all", "create named 9a"):
-            found.append(str(raises(Refused, lambda: run._ask(words))))
+            found.append(str(raises(Refused, lambda: run._exchange(words, ()))))
         run.set_verdict("pass")
 
     with place.server() as server:
@@ -231,27 +232,23 @@ def statuses_are_those_of_the_server(place: Place) -> None:
 
 def the_program_is_found(place: Place) -> None:
     """By a variable, then on the path, then the wrapper of the checkout."""
-    before = dict(os.environ)
-    try:
-        os.environ.update(FILSKEAM_TTRUN=place.program(), TTRUN="")
+    path = os.environ["PATH"]
+    with patch.dict(os.environ, FILSKEAM_TTRUN=place.program(), TTRUN=""):
         os.mkdir(place.path("other"))
         shutil.copyfile("/bin/false", place.path("other/ttrun"))
         os.chmod(place.path("other/ttrun"), 0o755)
-        os.environ["PATH"] = place.path("other") + os.pathsep + before["PATH"]
+        os.environ["PATH"] = place.path("other") + os.pathsep + path
         with Server(grace=0.4) as server:
             same(server.run("t", main_that_calls).verdict, "pass", "by the variable:")
         os.environ["TTRUN"] = "/nowhere/ttrun"
         holds_word("/nowhere/ttrun cannot be started", str(raises(NoProgram, lambda: Server().run("t", main_that_calls))))
         del os.environ["FILSKEAM_TTRUN"], os.environ["TTRUN"]
-        os.environ["PATH"] = place.room + os.pathsep + before["PATH"]
+        os.environ["PATH"] = place.room + os.pathsep + path
         with Server(grace=0.4) as server:
             same(server.run("t", main_that_calls).verdict, "pass", "by the path:")
         os.environ["PATH"] = "/nowhere"
         if CLIENT.startswith(TOP):
             same(Server()._command, [os.path.join(TOP, "ttrun"), "serve"], "the wrapper:")
-    finally:
-        os.environ.clear()
-        os.environ.update(before)
     place.reach("ways", 3, 3)
 
 

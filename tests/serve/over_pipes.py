@@ -5,10 +5,10 @@ import time
 from collections import Counter
 from typing import Callable, Dict, Iterable, Iterator, List, Sequence
 
-from case import as_lines, faults_in
+from case import Ran, as_lines, faults_in
+from harness import call
 from reference import Server
-from serving import SECONDS, Pipe, Ran, served
-from sessions import Session
+from sessions import SECONDS, Pipe, Session
 
 Judge = Callable[[Sequence[str]], Iterable[str]]
 TESTS: Dict[str, Judge] = {}
@@ -35,27 +35,6 @@ def told_at_once(pipe: Pipe, given: bytes, wanted: str) -> List[str]:
     pipe.write(given)
     told = pipe.process.stderr.readline()
     return [] if told == as_lines(wanted) else [f"standard error has {told!r} for {given!r}"]
-
-
-@test
-def each_line_is_answered_before_the_next(command: Sequence[str]) -> Iterator[str]:
-    """A client that waits for each answer gets it."""
-    steps = [
-        (b"case t 2\n", b"evidence 1 t 2\n"),
-        (b"behaviour 1 p\n", b"behaviour 1 p\n"),
-        (b"0 create\n", b"0 create -> made 1\n"),
-        (b"0 start 1 1\n", b"0 start 1 1 -> ok\n"),
-        (b"0 wait done 1\n", b"0 wait done 1 -> parked\n"),
-        (b"1 # x\n", b"1 # x\n"),
-        (b"1 finish\n", b"1 finish -> ok\n0 wake done 1 -> matched\n"),
-        (b"0 fly\n", b"0 ! bad line\n"),
-        (b"0 finish\n", b"0 finish -> ok\n"),
-        (b"end\n", b"end none\n"),
-    ]
-    with Pipe(command) as pipe:
-        for given, wanted in steps:
-            yield from exchanged(pipe, given, wanted)
-        yield from faults_in(Ran(b"", b"", 3), pipe.ended())
 
 
 @test
@@ -97,15 +76,6 @@ def half_a_line_is_not_answered(command: Sequence[str]) -> List[str]:
 
 
 @test
-def a_refused_line_without_a_run_is_told_at_once(command: Sequence[str]) -> List[str]:
-    """Standard error has it while the server continues."""
-    with Pipe(command) as pipe:
-        faults = exchanged(pipe, b"case t 1\n", b"evidence 1 t 1\n")
-        faults += told_at_once(pipe, b"fly\n", "ttrun: line 2: bad line")
-        return faults + exchanged(pipe, b"0 finish\n", b"0 finish -> ok\n")
-
-
-@test
 def a_server_ends_at_a_fault_though_the_input_goes_on(command: Sequence[str]) -> List[str]:
     """Outside a case a refused line ends it, while its client still holds the pipe."""
     with Pipe(command) as pipe:
@@ -124,7 +94,7 @@ def a_client_that_dies_leaves_whole_evidence(command: Sequence[str]) -> List[str
         "os.kill(os.getpid(), 9)\n"
     )
     wanted = Ran(b"evidence 1 t 2\n0 create -> made 1\n0 ! no line feed\nend none\n", b"ttrun: the input ended inside a test case\n", -9)
-    return faults_in(wanted, served([sys.executable, "-c", client, *command], b""))
+    return faults_in(wanted, call([sys.executable, "-c", client, *command], b""))
 
 
 @test
@@ -138,7 +108,7 @@ def a_server_whose_output_nobody_reads_ends(command: Sequence[str]) -> List[str]
 
 
 def redirected(command: Sequence[str], redirect: str, given: bytes) -> Ran:
-    return served(["sh", "-c", f'"$@" {redirect}', "sh", *command], given)
+    return call(["sh", "-c", f'"$@" {redirect}', "sh", *command], given)
 
 
 @test

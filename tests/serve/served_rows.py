@@ -1,20 +1,15 @@
 """What is written for given lines: texts in, evidence, standard error and status out, each under a plain name."""
-from dataclasses import dataclass
 from typing import Iterator, List, Tuple
+
+from case import Case
 
 ENDED_INSIDE = "the input ended inside a test case"
 BEHAVIOURS = "a test case has 1 to 256 behaviours"
 
 
-@dataclass(frozen=True)
-class Row:
-    """An input, and what the server gives for it."""
-
-    name: str
-    given: bytes
-    output: bytes
-    errors: bytes = b""
-    status: int = 0
+def row(name: str, given: bytes, output: bytes, errors: bytes, status: int) -> Case:
+    """A row: an input, and what the server gives for it."""
+    return Case(name, ("serve",), given, output, errors, status)
 
 
 def text_of(lines: str) -> str:
@@ -135,39 +130,39 @@ TAIL = b"0 finish -> ok\nend none\n"
 ENDED = b"ttrun: the input ended inside a test case\n"
 
 # What the table above cannot spell: bytes, long lines, a last line without its line feed.
-BYTES: List[Row] = [
-    Row("an_empty_line_inside", b"case t 2\n\n0 finish\nend\n", HEAD + TAIL, b"ttrun: line 2: bad line\n", 3),
-    Row("an_empty_line_outside", b"\n", b"", b"ttrun: line 1: bad line\n", 3),
-    Row("a_carriage_return", b"case t 2\n0 finish\r\n0 finish\nend\n", HEAD + b"0 ! bad line\n" + TAIL, b"", 3),
-    Row("a_space_in_front", b"case t 2\n 0 finish\n0 finish\nend\n", HEAD + TAIL, b"ttrun: line 2: bad line\n", 3),
-    Row("a_space_behind", b"case t 2\n0 finish \n0 finish\nend\n", HEAD + b"0 ! bad line\n" + TAIL, b"", 3),
-    Row("two_spaces", b"case t 2\n0  finish\n0 finish\nend\n", HEAD + b"0 ! bad line\n" + TAIL, b"", 3),
-    Row("a_zero_byte", b"case t 2\n0 fin\0sh\n0 finish\nend\n", HEAD + b"0 ! bad line\n" + TAIL, b"", 3),
-    Row("a_byte_of_no_text_in_a_remark", b"case t 2\n0 # \xc3\xa4\n0 # \t\n0 # \x7f\n0 finish\nend\n", HEAD + b"0 ! bad remark\n" * 3 + TAIL, b"", 3),
-    Row("bytes_that_are_no_run", b"case t 2\n\xff\xfe finish\n0 finish\nend\n", HEAD + TAIL, b"ttrun: line 2: bad line\n", 3),
-    Row("an_empty_remark", b"case t 2\n0 # \n0 #\n0 finish\nend\n", HEAD + b"0 ! bad remark\n0 ! bad line\n" + TAIL, b"", 3),
-    Row("a_remark_of_a_space", b"case t 2\n0 #  \n0 finish\nend\n", HEAD + b"0 #  \n" + TAIL, b"", 0),
-    Row("a_remark_of_200_bytes", b"case t 2\n0 # " + b"x" * 200 + b"\n0 finish\nend\n", HEAD + b"0 # " + b"x" * 200 + b"\n" + TAIL, b"", 0),
-    Row("a_remark_of_201_bytes", b"case t 2\n0 # " + b"x" * 201 + b"\n0 finish\nend\n", HEAD + b"0 ! bad remark\n" + TAIL, b"", 3),
-    Row("the_longest_line", b"case t 256\n255 # " + b"~" * 200 + b"\n0 finish\nend\n",
+BYTES: List[Case] = [
+    row("an_empty_line_inside", b"case t 2\n\n0 finish\nend\n", HEAD + TAIL, b"ttrun: line 2: bad line\n", 3),
+    row("an_empty_line_outside", b"\n", b"", b"ttrun: line 1: bad line\n", 3),
+    row("a_carriage_return", b"case t 2\n0 finish\r\n0 finish\nend\n", HEAD + b"0 ! bad line\n" + TAIL, b"", 3),
+    row("a_space_in_front", b"case t 2\n 0 finish\n0 finish\nend\n", HEAD + TAIL, b"ttrun: line 2: bad line\n", 3),
+    row("a_space_behind", b"case t 2\n0 finish \n0 finish\nend\n", HEAD + b"0 ! bad line\n" + TAIL, b"", 3),
+    row("two_spaces", b"case t 2\n0  finish\n0 finish\nend\n", HEAD + b"0 ! bad line\n" + TAIL, b"", 3),
+    row("a_zero_byte", b"case t 2\n0 fin\0sh\n0 finish\nend\n", HEAD + b"0 ! bad line\n" + TAIL, b"", 3),
+    row("a_byte_of_no_text_in_a_remark", b"case t 2\n0 # \xc3\xa4\n0 # \t\n0 # \x7f\n0 finish\nend\n", HEAD + b"0 ! bad remark\n" * 3 + TAIL, b"", 3),
+    row("bytes_that_are_no_run", b"case t 2\n\xff\xfe finish\n0 finish\nend\n", HEAD + TAIL, b"ttrun: line 2: bad line\n", 3),
+    row("an_empty_remark", b"case t 2\n0 # \n0 #\n0 finish\nend\n", HEAD + b"0 ! bad remark\n0 ! bad line\n" + TAIL, b"", 3),
+    row("a_remark_of_a_space", b"case t 2\n0 #  \n0 finish\nend\n", HEAD + b"0 #  \n" + TAIL, b"", 0),
+    row("a_remark_of_200_bytes", b"case t 2\n0 # " + b"x" * 200 + b"\n0 finish\nend\n", HEAD + b"0 # " + b"x" * 200 + b"\n" + TAIL, b"", 0),
+    row("a_remark_of_201_bytes", b"case t 2\n0 # " + b"x" * 201 + b"\n0 finish\nend\n", HEAD + b"0 ! bad remark\n" + TAIL, b"", 3),
+    row("the_longest_line", b"case t 256\n255 # " + b"~" * 200 + b"\n0 finish\nend\n",
         b"evidence 1 t 256\n255 # " + b"~" * 200 + b"\n" + TAIL, b"", 0),
-    Row("a_line_of_208_bytes", b"case t 2\n65535 # " + b"~" * 200 + b"\n0 finish\nend\n", HEAD + TAIL, b"ttrun: line 2: no such run\n", 3),
-    Row("a_line_of_209_bytes", b"case t 2\n65535 # " + b"~" * 201 + b"\n0 finish\nend\n", HEAD + TAIL, b"ttrun: line 2: line too long\n", 3),
-    Row("a_line_of_100000_bytes_of_a_run", b"case t 2\n1 " + b"x" * 100_000 + b"\n0 finish\nend\n", HEAD + b"1 ! line too long\n" + TAIL, b"", 3),
-    Row("a_line_of_100000_bytes_of_nobody", b"case t 2\n" + b"x" * 100_000 + b"\n0 finish\nend\n", HEAD + TAIL, b"ttrun: line 2: line too long\n", 3),
-    Row("a_number_of_100000_digits", b"case t 2\n" + b"1" * 100_000 + b" finish\n0 finish\nend\n", HEAD + TAIL, b"ttrun: line 2: line too long\n", 3),
-    Row("a_long_name_in_a_long_line", b"case t 2\n0 create named " + b"a" * 300 + b"\n0 finish\nend\n", HEAD + b"0 ! line too long\n" + TAIL, b"", 3),
-    Row("a_long_line_outside", b"x" * 100_000 + b"\ncase t 1\n", b"", b"ttrun: line 1: line too long\n", 3),
-    Row("half_a_line_at_the_end", b"case t 2\n0 finish\n0 getver", HEAD + b"0 finish -> ok\n0 ! no line feed\nend none\n", ENDED, 3),
-    Row("a_whole_move_without_its_line_feed", b"case t 2\n0 finish", HEAD + b"0 ! no line feed\nend none\n", ENDED, 3),
-    Row("an_end_without_its_line_feed", b"case t 2\n0 finish\nend", HEAD + TAIL, b"ttrun: line 3: no line feed\n" + ENDED, 3),
-    Row("half_a_line_of_nobody_at_the_end", b"case t 2\n0 finish\nbehav", HEAD + TAIL, b"ttrun: line 3: no line feed\n" + ENDED, 3),
-    Row("a_case_without_its_line_feed", b"case t 2", b"", b"ttrun: line 1: no line feed\n", 3),
-    Row("half_a_long_line_at_the_end", b"case t 2\n0 finish\n1 " + b"x" * 10_000, HEAD + b"0 finish -> ok\n1 ! no line feed\nend none\n", ENDED, 3),
+    row("a_line_of_208_bytes", b"case t 2\n65535 # " + b"~" * 200 + b"\n0 finish\nend\n", HEAD + TAIL, b"ttrun: line 2: no such run\n", 3),
+    row("a_line_of_209_bytes", b"case t 2\n65535 # " + b"~" * 201 + b"\n0 finish\nend\n", HEAD + TAIL, b"ttrun: line 2: line too long\n", 3),
+    row("a_line_of_100000_bytes_of_a_run", b"case t 2\n1 " + b"x" * 100_000 + b"\n0 finish\nend\n", HEAD + b"1 ! line too long\n" + TAIL, b"", 3),
+    row("a_line_of_100000_bytes_of_nobody", b"case t 2\n" + b"x" * 100_000 + b"\n0 finish\nend\n", HEAD + TAIL, b"ttrun: line 2: line too long\n", 3),
+    row("a_number_of_100000_digits", b"case t 2\n" + b"1" * 100_000 + b" finish\n0 finish\nend\n", HEAD + TAIL, b"ttrun: line 2: line too long\n", 3),
+    row("a_long_name_in_a_long_line", b"case t 2\n0 create named " + b"a" * 300 + b"\n0 finish\nend\n", HEAD + b"0 ! line too long\n" + TAIL, b"", 3),
+    row("a_long_line_outside", b"x" * 100_000 + b"\ncase t 1\n", b"", b"ttrun: line 1: line too long\n", 3),
+    row("half_a_line_at_the_end", b"case t 2\n0 finish\n0 getver", HEAD + b"0 finish -> ok\n0 ! no line feed\nend none\n", ENDED, 3),
+    row("a_whole_move_without_its_line_feed", b"case t 2\n0 finish", HEAD + b"0 ! no line feed\nend none\n", ENDED, 3),
+    row("an_end_without_its_line_feed", b"case t 2\n0 finish\nend", HEAD + TAIL, b"ttrun: line 3: no line feed\n" + ENDED, 3),
+    row("half_a_line_of_nobody_at_the_end", b"case t 2\n0 finish\nbehav", HEAD + TAIL, b"ttrun: line 3: no line feed\n" + ENDED, 3),
+    row("a_case_without_its_line_feed", b"case t 2", b"", b"ttrun: line 1: no line feed\n", 3),
+    row("half_a_long_line_at_the_end", b"case t 2\n0 finish\n1 " + b"x" * 10_000, HEAD + b"0 finish -> ok\n1 ! no line feed\nend none\n", ENDED, 3),
 ]
 
 
-def all_wait() -> Row:
+def all_wait() -> Case:
     """A row in which every run but the last waits for that one, and is woken by its end."""
     others, last = range(1, 256), 255
     starts = [(f"0 create{it}", f"0 create{it} -> made {run}") for run in others for it in (" alive" if run % 2 else "",)]
@@ -176,23 +171,23 @@ def all_wait() -> Row:
     wakes = [f"{run} wake done {last} -> matched" for run in range(last)]
     lines = ["case t 256", *(it for it, _ in (*starts, *waits)), f"{last} finish", "0 finish", "end"]
     output = ["evidence 1 t 256", *(it for _, it in (*starts, *waits)), f"{last} finish -> ok", *wakes, "0 finish -> ok", "end none"]
-    return Row("all_runs_wait_for_the_last", "".join(f"{it}\n" for it in lines).encode(), "".join(f"{it}\n" for it in output).encode(), b"", 0)
+    return row("all_runs_wait_for_the_last", "".join(f"{it}\n" for it in lines).encode(), "".join(f"{it}\n" for it in output).encode(), b"", 0)
 
 
-def many_cases(count: int) -> Row:
+def many_cases(count: int) -> Case:
     """A row of that many test cases, the first of which fails."""
     given = "".join(f"case t{at} 1\n0 setverdict {'pass' if at else 'fail'}\n0 finish\nend\n" for at in range(count))
     output = "".join(f"evidence 1 t{at} 1\n0 setverdict {it} -> ok\n0 finish -> ok\nend {it}\n"
                      for at in range(count) for it in ("pass" if at else "fail",))
-    return Row("more_cases_than_16_bits_count", given.encode(), output.encode(), b"", 1)
+    return row("more_cases_than_16_bits_count", given.encode(), output.encode(), b"", 1)
 
 
-def rows() -> Iterator[Row]:
+def rows() -> Iterator[Case]:
     framed = [(name, f"case t {behaviours}; {given}; 0 finish; end", f"evidence 1 t {behaviours}; {output}; 0 finish -> ok; end none",
                ";".join(errors), status) for name, behaviours, status, given, output, *errors in FRAMED]
     for name, given, output, errors, status in framed + TABLE:
         told = "".join(f"ttrun: {line}\n" for line in text_of(errors).splitlines())
-        yield Row(name, text_of(given).encode(), text_of(output).encode(), told.encode(), status)
+        yield row(name, text_of(given).encode(), text_of(output).encode(), told.encode(), status)
     yield from BYTES
     yield all_wait()
     yield many_cases(70_000)

@@ -1,20 +1,24 @@
-"""Random sessions: their evidence is judged by the reader of histories, and is what the reference server writes."""
+"""Calls of a server, and random sessions: their evidence is what the reference server writes, and legal to the program."""
+from __future__ import annotations
+
 import os
 import random
 import re
+import select
+import signal
+import subprocess
 from collections import Counter
-from typing import Dict, Iterator, List, Optional, Sequence, Tuple
+from typing import Iterator, List, Sequence
 
 import evidence
 from case import Ran, as_lines, below, faults_in, shown_with
-from examples import TOP
+from harness import PROGRAM, call
 from random_moves import drawn_op, ends_case
 from reference import Server
-from serving import served
-from table import Op, Table
-from texts import NUMBER, read_move
+from table import Op
+from texts import NUMBER
 
-PROGRAM = os.path.join(TOP, "crates", "ttrun", "out", "ttrun")
+SECONDS = 30
 SESSIONS = 30
 RUNS = (1, 2, 3, 5, 9, 64, 256)
 NAMES = ("pump", "probe", "p_1", "A" * 32)
@@ -24,22 +28,60 @@ BAD_LINES = ("0 fly", "0", "0fly", "00", "0 ", "0 # ", "0 setverdict error", "0 
              "70000 finish", "0 " + "y" * 999)
 
 
-class Session:
-    """A random input. A server of its own says who continues and who waits, so that most moves may be made, and what is wanted."""
+class Pipe:
+    """A server whose lines come one by one."""
 
-    def __init__(self, chance: random.Random, met: Counter) -> None:
-        self.chance, self.met, self.server = chance, met, Server()
+    def __init__(self, command: Sequence[str]) -> None:
+        pipes = {"stdin": subprocess.PIPE, "stdout": subprocess.PIPE, "stderr": subprocess.PIPE}
+        self.process = subprocess.Popen(list(command), bufsize=0, start_new_session=True, **pipes)
+
+    def write(self, text: bytes) -> None:
+        self.process.stdin.write(text)
+
+    def read(self, seconds: float) -> bytes:
+        """What it has written, as soon as there is something; nothing if nothing comes for so long."""
+        ready, _, _ = select.select([self.process.stdout], [], [], seconds)
+        return os.read(self.process.stdout.fileno(), 65536) if ready else b""
+
+    def read_all_of(self, size: int) -> bytes:
+        """That many bytes, or those that came in time."""
+        text = b""
+        while len(text) < size:
+            more = self.read(SECONDS)
+            if not more:
+                break
+            text += more
+        return text
+
+    def ended(self) -> Ran:
+        output, errors = self.process.communicate(timeout=SECONDS)
+        return Ran(output, errors, self.process.returncode)
+
+    def __enter__(self) -> Pipe:
+        return self
+
+    def __exit__(self, *_: object) -> None:
+        if self.process.poll() is None:
+            os.killpg(self.process.pid, signal.SIGKILL)
+            self.process.wait()
+        for stream in (self.process.stdin, self.process.stdout, self.process.stderr):
+            stream.close()
+
+
+class Session:
+    """A random input. A server of its own says who continues and who waits, so that most moves may be made, and what is wanted. If it is
+    plain, it has no line that is refused."""
+
+    def __init__(self, chance: random.Random, met: Counter, is_plain: bool = False) -> None:
+        self.chance, self.met, self.server, self.is_plain = chance, met, Server(), is_plain
         self.lines: List[str] = []
         self.output: List[str] = []
         self.errors: List[str] = []
-        # The moves that are taken, of each case.
-        self.moves: List[List[str]] = []
         for at in range(chance.randrange(1, 9)):
             self.draw_case(f"t{at}")
 
     def draw_case(self, name: str) -> None:
         behaviours = self.chance.choice(RUNS)
-        self.moves.append([])
         self.take(f"case {name} {behaviours}")
         daring = self.chance.choice((0.02, 0.1, 0.5))
         if self.chance.random() < 0.5:
@@ -66,10 +108,14 @@ class Session:
     def take(self, line: str) -> List[str]:
         """Adds a line; what is written for it, nothing if it is refused."""
         written, told = self.server.take(line)
+        is_refused = bool(told) or re.match(f"{NUMBER} ! ", written[0]) is not None
+        if is_refused and self.is_plain:
+            self.server.is_refused = False
+            return []
         self.lines.append(line)
         self.output += written
         self.errors += told
-        return [] if told or re.match(f"{NUMBER} ! ", written[0]) else written
+        return [] if is_refused else written
 
     def add(self, line: str, what: str) -> None:
         """Adds a line that is no move that may be made."""
@@ -92,7 +138,6 @@ class Session:
         if not written:
             self.met["move, refused"] += 1
             return
-        self.moves[-1].append(text)
         self.met["move, taken"] += 1
         self.met["parked"] += written[0].endswith(" -> parked")
         self.met["woken"] += len(written) - 1
@@ -106,40 +151,6 @@ class Session:
         return Ran(as_lines(*self.output), as_lines(*(f"ttrun: {line}" for line in self.errors)), self.server.status())
 
 
-def faults_of_evidence(session: Session, output: bytes) -> List[str]:
-    """What is wrong with the evidence, by only what is read in it."""
-    blocks = evidence.blocks_of(output.decode("latin-1"))
-    if not evidence.is_legal(blocks):
-        return ["the evidence is not legal"]
-    for block, moves in zip(blocks, session.moves):
-        entries = [entry.partition(" -> ") for entry in block.entries]
-        asked = [move for move, _, _ in entries if move.split()[1] != "wake"]
-        if asked != moves:
-            return [f"the entries of {block.name} are not the moves: {asked[:9]} and {moves[:9]}"]
-        if any(reply == "parked" for move, _, reply in entries if move.split()[1] == "wake"):
-            return [f"a wake of {block.name} is parked"]
-        sleeping = sleepers(block)
-        if sleeping:
-            return [f"{block.name}: run {sleeping[0]} sleeps behind entry {sleeping[1]}, and may go on"]
-    return [] if len(blocks) == len(session.moves) else [f"{len(blocks)} blocks of {len(session.moves)} cases"]
-
-
-def sleepers(block: evidence.Block) -> Optional[Tuple[int, int]]:
-    """A run that sleeps though it can continue, if a turn has ended: in front of an entry that is no wake, or at the end."""
-    table, waits = Table(block.behaviours), {}  # type: Tuple[Table, Dict[int, Op]]
-    for at, entry in enumerate([*block.entries, ""]):
-        move = read_move(entry.partition(" -> ")[0])
-        if move is None or move[1].verb != "wake":
-            able = [run for run, op in waits.items() if table.would(run, op) != "parked"]
-            if able:
-                return able[0], at
-        if move is not None:
-            waits.pop(move[0], None)
-            if table.play(*move) == "parked":
-                waits[move[0]] = Op("wake", move[1].target, awaited=move[1].awaited)
-    return None
-
-
 FLOORS = {
     "move, taken": 1500, "move, refused": 60, "remark, taken": 300, "naming, taken": 100, "naming, refused": 100, "bad line, refused": 80,
     "parked": 60, "woken": 40, "woken at once": 10, "woken with others": 4, "over": 4}
@@ -150,16 +161,16 @@ def faults_by_program(output: bytes) -> List[str]:
     if not os.access(PROGRAM, os.X_OK):
         return []
     histories = "".join(block.history() for block in evidence.blocks_of(output.decode("latin-1")))
-    ran = served([PROGRAM, "check"], histories.encode())
+    ran = call([PROGRAM, "check"], histories.encode())
     return [] if ran.status == 0 else [f"ttrun check says: {ran.output[-200:]!r} {ran.errors!r}"]
 
 
-def random_sessions(command: Sequence[str], seed: int) -> Iterator[str]:
+def random_sessions(command: Sequence[str], seed: int, is_plain: bool = False) -> Iterator[str]:
     chance, met, written = random.Random(f"sessions {seed}"), Counter(), b""
     for _ in range(SESSIONS):
-        session = Session(chance, met)
+        session = Session(chance, met, is_plain)
         text = session.text()
-        came = served(command, text)
-        yield from shown_with(faults_in(session.wanted(), came) or faults_of_evidence(session, came.output), f"the input: {text[:1500]!r}")
+        came = call(command, text)
+        yield from shown_with(faults_in(session.wanted(), came), f"the input: {text[:1500]!r}")
         written += came.output
     yield from faults_by_program(written) + below(met, FLOORS)

@@ -1,7 +1,8 @@
-"""Tests of the command as a user calls it, over recorded logs of Titan and made ones."""
+"""Tests of the command as a user calls it, over recorded logs of Titan, made ones, and those that Titan writes now if it is installed."""
 import os
 import re
 import shlex
+import shutil
 import subprocess
 import sys
 import xml.etree.ElementTree as ElementTree
@@ -9,13 +10,14 @@ from collections import Counter
 from typing import Dict, List, Tuple
 
 import made
-from holding import hold, same, text_of
+from holding import Skipped, hold, same, text_of
 from kit import CLIENT, TOP, Place, Ran, lines_of, log
 from script_reader import read_script
 from table import Op
 from texts import Block, Judged, check, read_history
 
-from titan_logs import cases, histories, junit, playing, scripts
+import record
+from titan_logs import cases, command, histories, playing, scripts
 
 FULL, PAGE = log("pumps-full.merged"), os.path.join(TOP, "docs", "titan.md")
 STEADY = ("t_restart", "t_any_all", "t_watched", "t_killed_start", "t_stopped_start", "t_nested", "t_echo", "t_error", "t_stopcase",
@@ -25,7 +27,7 @@ STEADY = ("t_restart", "t_any_all", "t_watched", "t_killed_start", "t_stopped_st
 def rows_of(ran: Ran) -> Dict[str, List[str]]:
     """The rows of the table, by the name of the test case."""
     begin = next(at for at, line in enumerate(ran.lines) if line.startswith("test case "))
-    return {line.split()[0]: line.split()[1:] for line in ran.lines[begin + 1:] if line.startswith(("t_", "t "))}
+    return {line.split()[0]: line.split()[1:] for line in ran.lines[begin + 1:] if line.startswith(("t_", "t ", "t#"))}
 
 
 def blocks_in(place: Place, name: str) -> List[Block]:
@@ -219,11 +221,21 @@ def nobody_reads_what_is_printed(place: Place) -> None:
 
 
 def one_execution_is_chosen(place: Place) -> None:
-    for chosen, wanted in (("t_first#2", ["t_first#2"]), ("t_first", ["t_first", "t_first#2"])):
-        ran = place.command("audit", FULL, "--only", chosen, "--history", "kept")
+    """By its number. Each is a test case of the script, which is explored, run and checked."""
+    for number in range(3):
+        made.put(made.course(number + 40, most=6), place.path("logs"), f"M{number}.host")
+    for logs, chosen, wanted in ((FULL, "t_first#2", ["t_first#2"]), (FULL, "t_first", ["t_first", "t_first#2"]),
+                                 ("logs", "t#3", ["t#3"]), ("logs", "t", ["t", "t#2", "t#3"])):
+        ran = place.command("audit", logs, "--only", chosen, "--history", "kept")
         hold(ran.status < 3, ran.errors)
         same(list(rows_of(ran)), wanted)
         same([it.name for it in blocks_in(place, "kept")], [it.replace("#", "_") for it in wanted])
+    script = f"{place.command('script', 'logs').text}\n"
+    same(sorted(explored(place, script)), ["t", "t_2", "t_3"])
+    given = script.encode()
+    given += subprocess.run([place.program, "run", "--evidence"], input=given, capture_output=True, check=False).stdout
+    ran = subprocess.run([place.program, "check", "--script"], input=given, capture_output=True, check=False)
+    same((ran.returncode, [it.split()[:2] for it in ran.stdout.decode().splitlines()]), (0, [["legal", it] for it in ("t", "t_2", "t_3")]))
 
 
 def what_was_not_decided_is_no_pass(place: Place) -> None:
@@ -252,7 +264,7 @@ def junit_counts_what_was_not_decided(place: Place) -> None:
 
 def junit_keeps_any_letter(place: Place) -> None:
     text = "it's \"said\" & <done>"
-    root = ElementTree.fromstring(junit.report_of(text, [junit.Row(text, text, "failure", text, [text])]))
+    root = ElementTree.fromstring(command.report_of(text, [command.Row(text, text, "failure", text, [text])]))
     case, = root[0]
     same((root[0].get("name"), case.get("name"), case.get("classname"), case[0].get("message"), (case[1].text or "").strip()), (text,) * 5)
     for seed in range(12):
@@ -344,3 +356,50 @@ def a_page_or_why_there_is_none(place: Place) -> None:
     words = ["flaky", FULL, "--only", "t_late", "--only", "t_restart", "--html", "p.html", "--program", program]
     place.says(1, "compare inconc and pass: p.html#/1/2", *words)
     same([it.verdict for it in blocks_in(place, "seen")], ["pass", "inconc", "pass"])
+
+
+def recorded(*named: object, **more: object) -> None:
+    """Runs a module on Titan, if that is installed."""
+    if record.why_not():
+        raise Skipped(record.why_not())
+    record.record(*named, **more)
+
+
+def titan_run_anew(place: Place) -> None:
+    folder = place.path("full")
+    recorded("Pumps", folder, "full")
+    other = place.path("default")
+    os.mkdir(other)
+    shutil.copy2(os.path.join(folder, "Pumps"), other)
+    recorded("Pumps", other, "default")
+    for logs in (folder, other):
+        ran = place.command("audit", logs)
+        same((ran.status, ran.lines[-1]), (0, "20 test cases: 20 legal"), ran.text)
+        rows = rows_of(place.command("flaky", logs))
+        same(len(rows), 20)
+        for name in STEADY:
+            same(rows[name][1], "-", name)
+        # On a busy machine the component may come too late, and is cut off.
+        hold(rows["t_late"][:2] == ["inconc", "pass"] or rows["t_late"][0] != "inconc", rows["t_late"])
+
+
+def titan_with_a_log_for_each_test_case(place: Place) -> None:
+    """The log of the first execution of a test case is overwritten by that of its second."""
+    folder = place.path("each")
+    recorded("Pumps", folder, "each")
+    ran = place.command("audit", folder)
+    same((ran.status, ran.lines[-1]), (0, "19 test cases: 19 legal"), ran.text)
+    hold(sum("-t_first.log: this component belongs to no test case that the log has" in it for it in ran.lines) == 1, ran.lines)
+
+
+def titan_with_the_shim(place: Place) -> None:
+    folder = place.path("quarrel")
+    recorded("Quarrel", folder, "full", is_shimmed=True, parameters=["tsp_parts := 4", "tsp_times := 3"])
+    text = "".join(text_of(os.path.join(folder, it)) for it in os.listdir(folder) if it.endswith(".log"))
+    # How many there are depends on who is stopped first.
+    count = len(re.findall(r"AUDIT running (?:\d+|any) -> (?:true|false)", text))
+    hold(count > 12 and "AUDIT alive" in text, f"the shim logs {count} answers to running")
+    rows = rows_of(place.command("audit", folder))
+    # Now and then a kill takes effect after the end of its caller, which no order has.
+    hold(len(rows) == 3 and sum(row[1] == "legal" for row in rows.values()) >= 1, rows)
+    hold(all(row[1] == "legal" or row[1:5] == ["no", "order", "was", "found"] for row in rows.values()), rows)

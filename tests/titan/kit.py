@@ -1,6 +1,5 @@
 """What the tests of ttrun-titan share: their place, and calls of the command."""
 import os
-import subprocess
 import sys
 import tempfile
 from dataclasses import dataclass
@@ -11,9 +10,9 @@ CLIENT = os.environ.get("TITAN_CLIENT", os.path.join(TOP, "clients", "titan"))
 sys.path[:0] = [CLIENT, os.path.join(TOP, "tests", "program")]
 
 import holding
+from harness import call
 
 LOGS = os.path.join(TOP, "clients", "titan", "logs")
-SECONDS = 120
 
 
 @dataclass
@@ -45,9 +44,8 @@ class Place(holding.Room):
 
     def command(self, *words: str) -> Ran:
         environment = {**os.environ, "TTRUN": self.program, "PYTHONDONTWRITEBYTECODE": "1"}
-        ran = subprocess.run([sys.executable, os.path.join(CLIENT, "ttrun-titan"), *words], cwd=self.room, env=environment,
-                             stdin=subprocess.DEVNULL, capture_output=True, timeout=SECONDS, check=False)
-        return Ran(ran.stdout.decode().splitlines(), ran.stderr.decode(), ran.returncode)
+        ran = call([sys.executable, os.path.join(CLIENT, "ttrun-titan"), *words], b"", cwd=self.room, env=environment)
+        return Ran(ran.output.decode().splitlines(), ran.errors.decode(), ran.status)
 
     def says(self, status: int, said: str, *words: str) -> Ran:
         """The same of a call that must end with this status, and say this."""

@@ -5,6 +5,7 @@ import re
 from dataclasses import dataclass, field
 from typing import Dict, List, Sequence, Tuple
 
+from harness import write
 from table import Op, Table, worst
 
 FIRST_REFERENCE = 3
@@ -217,10 +218,8 @@ def course(seed: int, most: int = 30, components: int = 4) -> Made:
 
 
 def put(made: Made, folder: str, prefix: str = "M.host") -> str:
-    os.makedirs(folder, exist_ok=True)
     for role, lines in made.logs.items():
-        with open(os.path.join(folder, f"{prefix}-{role or 'mtc'}.log"), "w", encoding="utf-8") as file:
-            file.write("".join(f"{it}\n" for it in lines))
+        write(os.path.join(folder, f"{prefix}-{role or 'mtc'}.log"), "".join(f"{it}\n" for it in lines))
     return folder
 
 

@@ -15,7 +15,7 @@ sys.dont_write_bytecode = True
 
 from kit import holding, judged
 
-holding.load("command_tests", "damage_tests", "reading_tests", "search_tests", "titan_tests")
+holding.load("command_tests", "reading_tests", "search_tests")
 # There are no fewer tests.
 FEWEST = 73
 

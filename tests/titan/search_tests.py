@@ -13,7 +13,7 @@ from script_reader import read_script
 from table import VERDICTS, Op, Table
 from texts import Judged
 
-from titan_logs import audit, cases, flaky, histories, playing, program, scripts, search
+from titan_logs import audit, cases, flaky, histories, playing, scripts, search
 
 STATES = 100_000
 COURSES = 120
@@ -73,7 +73,7 @@ def every_true_log_has_an_order(place: Place) -> None:
         blocks += one.blocks.values()
         calls += case.total
     hold(calls > 2500, calls)
-    same(program.checked(place.program, blocks), [""] * COURSES)
+    same(histories.checked(place.program, blocks), [""] * COURSES)
 
 
 def clocks_of_several_hosts_do_not_matter(place: Place) -> None:
@@ -105,7 +105,7 @@ def no_verdict_is_missed_and_none_made_up(place: Place) -> None:
             same(histories.verdict_of(case, entries), verdict, f"seed {seed}")
             blocks.append(histories.block_of(case, entries))
     hold(looked > COURSES and several > 10, (looked, several))
-    same(set(program.checked(place.program, blocks)), {""})
+    same(set(histories.checked(place.program, blocks)), {""})
 
 
 def a_witness_keeps_each_runs_order(place: Place) -> None:

@@ -29,6 +29,10 @@ if [ "$1" = try ]; then
     printf "told\nchecked: ended status=${ENDS:-0}\nraces: not looked for\nrun=ended status=${ENDS:-0} runners=1 races=unchecked proved=no\n" >&2
     exit "${ENDS:-0}"
 fi
+if [ "$1" = doc ]; then
+    echo "$FAKE_FOLDER/kit/START-HERE.md"
+    exit
+fi
 verb=$1
 shift
 tell "$verb $name $*"
@@ -87,4 +91,5 @@ PROGRAM
     chmod +x out/ttrun.part && mv out/ttrun.part out/ttrun
     [ -z "${FAKE_LATE:-}" ] || sleep 30 & wait $!
 fi
+[ "$name" != filskeam ] || { echo "int filskeam_open(void) { return 1; }" | cc -fPIC -x c -c - -o out/one.o && ar rc out/libfilskeam.a out/one.o; }
 tell "built $name"

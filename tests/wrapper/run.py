@@ -17,8 +17,8 @@ from concurrent.futures import ThreadPoolExecutor
 sys.dont_write_bytecode = True
 sys.path.append(os.path.dirname(os.path.dirname(os.path.abspath(__file__))))
 
-from harness import SECONDS, answer_of, chosen, hold, same, status_of, tests_of, text_of, wait_for, words_of
-from tree import LARGE, STARTING, Tree, ended, hold_program, hold_refused, hold_tried
+from harness import SECONDS, answer_of, call, chosen, hold, same, status_of, tests_of, text_of, wait_for, words_of
+from tree import CRATES, LARGE, STARTING, Tree, ended, hold_program, hold_refused, hold_tried
 
 
 class Calls(Tree):
@@ -228,6 +228,22 @@ class Builds(Tree):
         self.hold_runs(0)
         same(1, self.built().calls().count("built tc_low"), "what was built is built again")
 
+    def what_rt_ci_proved_is_built(self) -> None:
+        """It has no sums: these come from the toolchain. It is built again if a source is newer, or the toolchain gives no sums."""
+        crates = ("tc_low", "tc_high", "tc_aside")
+        self.built()
+        sums = {it: self.text(f"crates/{it}/out/rlib/stamp") for it in crates}
+        given = f"class Crate:\n    def __init__(self, name, sum): self.name, self.stamp = name, lambda: sum\ndef crates_below(top): return [Crate(*it) for it in {sums}.items()]\n"
+        for text, is_old, built in ((given, False, 1), (given, True, 2), ("raise SystemExit(2)\n", False, 3)):
+            self.write("../kit/bin/rtlib.py", text)
+            for it in crates:
+                os.remove(self.path(f"crates/{it}/out/rlib/stamp"))
+                made = self.write(f"crates/{it}/out/rlib/{it}.rlib/format", "")
+                os.utime(made, (0, 0) if is_old else None)
+            os.remove(self.program)
+            same((0, b"<a>"), (lambda ran: (ran.status, ran.output))(self.call("a")), "it is built")
+            same([built] * 3, [self.calls().count(f"built {it}") for it in crates], self.calls())
+
     def one_fails_beside_another(self) -> None:
         began = time.monotonic()
         ran = self.call("a", FAKE_STATUS="1", FAKE_AT="tc_aside", FAKE_PAUSE_tc_aside="0.5", FAKE_PAUSE_tc_high="50")
@@ -300,6 +316,12 @@ class Builds(Tree):
         same(["tc_low 1", "tc_high 1", "tc_aside 1", "ttrun 1"], self.begins_with("1")[0])
         os.remove(self.path("crates/tc_high/src/more.rt"))
         same(["tc_aside 1", "tc_low 1", "tc_high 1", "ttrun 1"], self.begins_with("1")[0])
+
+    def one_that_is_left_alone_begins_again_with_more_jobs(self) -> None:
+        self.change_builder("WORTH_IT = 45", "WORTH_IT = 1")
+        same(0, self.call("a", RT_JOBS="4", FAKE_PAUSE_tc_aside="3").status, "it is built")
+        same((["tc_low 4", "tc_aside 2", "tc_high 4"], ["tc_aside 4", "ttrun 4"]), ([*self.begins()[:1], *sorted(self.begins()[1:3])], self.begins()[3:]))
+        same((1, 1), tuple(self.calls().count(it) for it in ("ended tc_aside", "built tc_aside")), self.calls())
 
     def memory_is_short(self) -> None:
         for memory, in_group, wanted, at_once in (
@@ -638,8 +660,31 @@ class Tries(Tree):
         hold_tried(self.call("--try", "a", TTRUN=self.named()), b"<a>")
 
 
+class Libraries(Tree):
+    """The library instead of the program: a folder that a compiler of C takes."""
+
+    def a_library_is_built_like_the_program(self) -> None:
+        self.write("crates.txt", f"{CRATES}filskeam staticlib: tc_high\n")
+        self.write("crates/filskeam/src/lib.rt", "-- filskeam\n")
+        hold("is there a cc" in self.call("--library").lines()[-1], "made without a header")
+        self.write("clients/cpp/filskeam.h", "int filskeam_open(void);\n")
+        self.write("clients/cpp/filskeam.hpp", '#define FILSKEAM_VERSION "1.2.3"\n')
+        self.write("../kit/c/heap.c", "int rattle_alloc(void) { return 7; }\n")
+        same(0, call(["sh", "-c", "cc -fPIC -c heap.c && ar rc liblibc_c.a heap.o"], cwd=self.path("../kit/c")).status, "the kit")
+        folder = self.path("crates/filskeam/out/library")
+        for wanted in (1, 1, 2, 2):
+            if wanted > self.text("../calls").splitlines().count("built filskeam"):
+                self.change("filskeam/src/more.rt", "-- changed\n")
+            ran = self.call("--library", TTRUN="/nowhere")
+            same((0, f"{folder}\n".encode()), (ran.status, ran.output), ran)
+            same(wanted, self.text("../calls").splitlines().count("built filskeam"), "how often it was built")
+        same(["filskeam.h", "filskeam.hpp", "filskeam.pc", "libfilskeam.a", "libfilskeam.so", "libfilskeam_bare.a"], sorted(os.listdir(folder)))
+        hold("Version: 1.2.3\n" in text_of(folder, "filskeam.pc"), text_of(folder, "filskeam.pc"))
+        same("one.o heap.o", " ".join(call(["ar", "t", os.path.join(folder, "libfilskeam.a")]).output.split()))
+
+
 # There are no fewer tests.
-TESTS, FEWEST = tests_of(Calls, Changes, Builds, Stops, Tries), 83
+TESTS, FEWEST = tests_of(Calls, Changes, Builds, Stops, Tries, Libraries), 85
 
 
 if __name__ == "__main__":

@@ -10,7 +10,8 @@ from collections.abc import Coroutine, Generator
 from typing import Callable, Dict, List, NoReturn, Optional, Sequence, Set, Tuple, Union
 
 from .errors import DynamicError, Ended, Refused, ServerEnded
-from .evidence import VERDICTS, EvidenceFile, Findings, Line, Raised, Result, ends_case, may_halt, parsed, suits
+from .evidence import VERDICTS, EvidenceFile, Findings, Line, Raised, Result, ends_case, parsed, suits
+from .library import InProcess, find_library
 from .program import Program, find_program
 from .words import Behaviour, Group, component_word, name_of, name_word, plain_text, told
 
@@ -32,8 +33,8 @@ class Run:
 
     def __init__(self, case: Case, number: int, behaviour: str, me: int) -> None:
         self.number, self.behaviour, self.me = number, behaviour, me
-        self.thread: Optional[threading.Thread] = None
-        self.is_done = False
+        self.is_started = self.is_done = False
+        self._thread = 0
         self._case = case
         self._calling = threading.Lock()
         self._answers: queue.SimpleQueue[Union[str, BaseException]] = queue.SimpleQueue()
@@ -61,7 +62,8 @@ class Run:
         self._check_caller()
         run = self._case._new_run(behaviour, component)
         before = self._case._naming(run) or self._remark(f"a test case has at most {MOST_BEHAVIOURS} behaviours, and each start is one")
-        self._ask(" ".join(["start", words[0], str(run.number), *words[1:]]), before)
+        with self._calling:
+            self._exchange(" ".join(["start", words[0], str(run.number), *words[1:]]), before)
         self._case._begin(run, functools.partial(behaviour, run, *arguments, **others))
 
     def stop(self, group: Group) -> None:
@@ -113,7 +115,7 @@ class Run:
 
     def log(self, text: object) -> None:
         """Puts a remark into the evidence. Any thread may."""
-        self._case._send(*self._remark(text))
+        self._case._send(self._remark(text))
 
     def check(self) -> None:
         """Raises `Ended` if this run was stopped: for long loops. It asks the table only after something was stopped."""
@@ -147,37 +149,32 @@ class Run:
                 return False
 
     def _remark(self, text: object) -> List[str]:
-        plain = plain_text(text)
+        plain = plain_text(text) if text != "" else ""
         return [f"{self.number} # {plain}"] if plain else []
 
     def _check_caller(self) -> None:
         """Whether this thread may call. A run that knows of its end asks the table no more."""
-        if threading.current_thread() is not self.thread:
+        if threading.get_ident() != self._thread:
             raise RuntimeError(f"the calls of {self} are its own thread's: another may only log")
         if self._has_ended:
             raise Ended(f"{self} has ended")
 
     def _call(self, words: str, reason: object = "") -> str:
         self._check_caller()
-        return self._ask(words, self._remark(reason))
-
-    def _ask(self, words: str, before: Sequence[str] = ()) -> str:
         with self._calling:
-            return self._exchange(words, before)
+            return self._exchange(words, () if reason == "" else self._remark(reason))
 
     def _exchange(self, words: str, before: Sequence[str], seconds: Optional[float] = None) -> str:
-        """The same, for who holds the lock of the calls, and may wait for so long."""
+        """Gives these lines and a call, and waits for its answer, for so long; for who holds the lock of the calls."""
         self._asked = words
-        self._case._send(*before, f"{self.number} {words}", seconds=seconds)
-        answer = self._answers.get(timeout=seconds)
+        self._case._send((*before, f"{self.number} {words}"), seconds)
+        answer = self._answers.get(True, seconds)
         if isinstance(answer, BaseException):
             raise answer
         self._has_ended = answer == "ended" or answer.startswith("error ")
-        if answer == "ended":
-            raise Ended(f"{self} has ended")
-        if answer.startswith("error "):
-            raise DynamicError(f"{words} -> {answer}")
-        return answer
+        if not self._has_ended:
+            return answer
+        raise Ended(f"{self} has ended") if answer == "ended" else DynamicError(f"{words} -> {answer}")
 
     def _expects(self, line: Line) -> bool:
         """Whether the entry, or the refused line, answers what was asked."""
@@ -185,12 +182,12 @@ class Run:
         return wanted != "" if line.kind == "!" else line.text == wanted and suits(wanted, line.reply)
 
     def _take(self, line: Line) -> None:
-        if line.kind == "!":
-            self._answer(Refused(f"the server refused a line of {self}: {line.text}"))
-        elif line.kind == "->" and line.reply == "parked":
+        if line.reply == "parked":
             self._is_parked = True
         elif line.kind == "->":
             self._answer(line.reply)
+        elif line.kind == "!":
+            self._answer(Refused(f"the server refused a line of {self}: {line.text}"))
 
     def _answer(self, answer: Union[str, BaseException]) -> None:
         self._asked, self._is_parked = "", False
@@ -237,12 +234,13 @@ class Case:
         with Server() as server:
             return server._judge(self)
 
-    def _play(self, program: Program, grace: float) -> None:
+    def _play(self, program: Union[Program, InProcess], grace: float) -> None:
         """Runs the main behaviour, and closes the test case once it is over, late, or interrupted."""
         self._program, self._grace = program, grace
         main = self._new_run(self.main, 0)
-        self._send(f"case {self.name} {MOST_BEHAVIOURS}", *self._naming(main))
-        reader = threading.Thread(target=self._read, name=f"{self.name} reader", daemon=True)
+        self._send([f"case {self.name} {MOST_BEHAVIOURS}", *self._naming(main)])
+        # The table in this process answers at once: there is nothing to read.
+        reader = threading.Thread(target=self._read if isinstance(program, Program) else str, name=f"{self.name} reader", daemon=True)
         reader.start()
         reason = "the bench was interrupted"
         try:
@@ -263,7 +261,7 @@ class Case:
         why = findings.why
         if self._is_timed_out and verdict != "error":  # the server was stuck meanwhile
             verdict, why = "error", self._reason
-        evidence = "".join(f"{line}\n" for line in self._lines)
+        evidence = "\n".join([*self._lines, ""])
         return Result(self.name, verdict, fault or why, findings.locals, findings.names, evidence, tuple(self._raised),
                       self._hung, self._is_timed_out, fault)
 
@@ -280,17 +278,16 @@ class Case:
         return [f"behaviour {run.number} {run.behaviour}"] if run.number < MOST_BEHAVIOURS else []
 
     def _begin(self, run: Run, behaviour: Callable[[], object]) -> None:
-        thread = threading.Thread(target=self._behave, args=(run, behaviour), name=f"{self.name} {run}", daemon=True)
-        run.thread = thread
+        run.is_started = True
         try:
-            thread.start()
+            threading.Thread(target=self._behave, args=(run, behaviour), name=f"{self.name} {run}", daemon=True).start()
         except RuntimeError:  # there is no thread for it, so nobody waits for its return
             run.is_done = True
             raise
 
     def _behave(self, run: Run, behaviour: Callable[[], object]) -> None:
         """Runs a behaviour to its end, and reports that to the table."""
-        _OWN.run = run
+        _OWN.run, run._thread = run, threading.get_ident()
         try:
             returned = behaviour()
             if isinstance(returned, (Coroutine, Generator)):
@@ -315,18 +312,21 @@ class Case:
                 pass
 
     def _going_on(self) -> List[Run]:
-        return [run for run in list(self._runs.values()) if run.thread is not None and not run.is_done]
+        return [run for run in list(self._runs.values()) if run.is_started and not run.is_done]
 
-    def _send(self, *lines: str, seconds: Optional[float] = None) -> None:
+    def _send(self, lines: Sequence[str], seconds: Optional[float] = None) -> None:
         """Writes lines, unless the test case is closed."""
-        if not self._sending.acquire(timeout=-1 if seconds is None else seconds):
+        if not (self._sending.acquire() if seconds is None else self._sending.acquire(timeout=seconds)):
             return
         try:
             if self._fault:
                 raise ServerEnded(self._fault)
             if self._is_closed:
                 raise Ended("the test case is closed")
-            self._program.write("".join(f"{line}\n" for line in lines).encode(), seconds)
+            for line, text in self._program.exchange(lines, seconds):
+                self._keep(line, text)
+        except (MemoryError, ValueError) as error:  # of the table in this process
+            self._lose(told(error))
         finally:
             self._sending.release()
 
@@ -356,20 +356,20 @@ class Case:
         else:
             is_right = line.kind in ("behaviour", "#") or run._expects(line)
         if is_right:
-            self._lines.append(text)
-            self._spread(line, run, text)
+            self._keep(line, text)
         return is_right
 
-    def _spread(self, line: Optional[Line], run: Optional[Run], text: str) -> None:
-        """Reports a line: first to all runs what it changes, then to its run the answer."""
-        if text.startswith("end ") or line is not None and may_halt(line):
+    def _keep(self, line: Optional[Line], text: str) -> None:
+        """Keeps a line, and reports it: first to all runs what it changes, then to its run the answer."""
+        self._lines.append(text)
+        if line.halts if line is not None else text.startswith("end "):
             with self._news:
                 self._changes += 1
-                self._is_ended = text.startswith("end ")
+                self._is_ended = line is None
                 self._is_over = self._is_over or line is not None and ends_case(line)
                 self._news.notify_all()
-        if line is not None and run is not None:
-            run._take(line)
+        if line is not None:
+            self._runs[line.run]._take(line)
 
     def _lose(self, fault: str) -> None:
         """Reports to all runs that there is no server any more. The first reason counts."""
@@ -408,7 +408,8 @@ class Case:
         """Asks for the last line. A server that does not write it is killed."""
         if self._sending.acquire(timeout=self._grace):
             self._is_closed = True
-            self._program.write(b"end\n", self._grace)
+            for _, text in () if self._fault else self._program.exchange(["end"], self._grace):
+                self._keep(None, text)
             self._sending.release()
         if not self._await(lambda: self._is_ended or self._fault, self._grace):
             self._lose("the server does not answer")
@@ -416,18 +417,21 @@ class Case:
 
 
 class Server:
-    """`ttrun serve`, which judges test cases one after the other. If it has ended, the next test case starts it again."""
+    """What judges test cases one after the other: the table in this process if the library filskeam is found, otherwise `ttrun serve`.
+
+    If that has ended, the next test case starts it again."""
 
     def __init__(self, command: Optional[Sequence[str]] = None, evidence: Optional[str] = None, grace: float = GRACE, append: bool = False) -> None:
-        """The command is `ttrun serve`, unless another is given. The file gets the evidence of each test case. It is emptied first, unless `append`.
+        """A command is started as `ttrun serve` is, whether there is a library or not. The file gets the evidence of each test case. It is emptied first, unless `append`.
 
         A behaviour that does not return for `grace` seconds after the end of its test case is abandoned: its thread keeps running."""
-        self._command = list(command) if command is not None else [find_program(), "serve"]
+        self._library = find_library() if command is None else None
+        self._command = list(command) if command is not None else [] if self._library else [find_program(), "serve"]
         self._file = EvidenceFile(evidence, append) if evidence is not None else None
         self._grace = min(grace, threading.TIMEOUT_MAX)
         # The names of its test cases so far.
         self.names: Set[str] = set()
-        self._program: Optional[Program] = None
+        self._program: Union[Program, InProcess, None] = None
         self._status = 0
         self._judging = threading.Lock()
 
@@ -454,7 +458,7 @@ class Server:
             raise RuntimeError(f"{_OWN.run} cannot run test case {case.name}: a test case is run outside of behaviours")
         with self._judging:
             self.names.add(case.name)
-            self._program = self._program or Program(self._command, self._grace)
+            self._program = self._program or (InProcess(self._library) if self._library else Program(self._command, self._grace))
             try:
                 case._play(self._program, self._grace)
             finally:

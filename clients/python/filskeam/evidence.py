@@ -15,12 +15,15 @@ def worst(verdicts: Sequence[str]) -> str:
 
 
 class Line(NamedTuple):
-    """A line inside evidence: a naming (`behaviour`), an entry (`->`), a remark (`#`) or a refused line (`!`)."""
+    """A line inside evidence: a naming (`behaviour`), an entry (`->`), a remark (`#`) or a refused line (`!`).
+
+    `halts` says whether somebody may have been stopped by an entry, or be done."""
 
     kind: str
     run: int
     text: str
     reply: str = ""
+    halts: bool = False
 
 
 _NAMING = re.compile(r"behaviour ([0-9]+) ([A-Za-z0-9_]+)")
@@ -31,7 +34,7 @@ _ENTRY = re.compile(r"([0-9]+) ([a-z][a-zA-Z0-9_ ]*) -> ([a-z][a-z0-9 -]*)")
 def parsed(text: str) -> Optional[Line]:
     entry = _ENTRY.fullmatch(text)
     if entry:
-        return Line("->", int(entry[1]), entry[2], entry[3])
+        return entry_of(int(entry[1]), entry[2], entry[3])
     said = _SAID.fullmatch(text)
     if said:
         return Line(said[2], int(said[1]), said[3])
@@ -45,6 +48,9 @@ _SUITS = {verb: re.compile(f"{replies}|ended|error [a-z-]+") for verb, replies i
     **dict.fromkeys(("running", "alive", "done", "killed"), "true|false"),
 }.items()}
 
+# The replies of entries after which components, and their verdicts, are as they were.
+_SILENT = frozenset((*VERDICTS, "true", "false", "matched", "parked", "ended"))
+
 
 def suits(call: str, reply: str) -> bool:
     return _SUITS[call.partition(" ")[0]].fullmatch(reply) is not None
@@ -55,9 +61,9 @@ def ends_case(line: Line) -> bool:
     return line.reply.startswith("error ") or is_end and line.reply == "ok"
 
 
-def may_halt(line: Line) -> bool:
-    """Whether somebody may have been stopped by this entry, or be done."""
-    return line.reply.startswith("error ") or line.text.partition(" ")[0] in ("finish", "stop", "kill", "stopcase") and line.reply == "ok"
+def entry_of(run: int, call: str, reply: str) -> Line:
+    is_halt = reply == "ok" and call.partition(" ")[0] in ("finish", "stop", "kill", "stopcase")
+    return Line("->", run, call, reply, is_halt or reply.startswith("error "))
 
 
 class Findings:
@@ -71,7 +77,8 @@ class Findings:
         self._component_of: Dict[int, int] = {0: 0}
         self._said: Dict[int, str] = {}
         for text in texts:
-            line = parsed(text)
+            is_silent = not self._said and text.rpartition(" -> ")[2] in _SILENT and "#" not in text
+            line = None if is_silent else parsed(text)
             if line is not None:
                 self._take(line)
 

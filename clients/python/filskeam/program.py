@@ -8,9 +8,10 @@ import shutil
 import subprocess
 import tempfile
 import weakref
-from typing import BinaryIO, Optional, Sequence, cast
+from typing import BinaryIO, Optional, Sequence, Tuple, cast
 
 from .errors import NoProgram
+from .evidence import Line
 
 # No line of evidence is as long.
 MOST_BYTES_OF_A_LINE = 1000
@@ -45,15 +46,16 @@ class Program:
         self._output = io.BufferedReader(cast(io.RawIOBase, self._process.stdout))
         _PROGRAMS.add(self)
 
-    def write(self, text: bytes, seconds: Optional[float] = None) -> None:
-        """Gives it lines, unless it takes none for that many seconds. One that has ended is noticed by its reader."""
-        pipe = self._input.fileno()
+    def exchange(self, lines: Sequence[str], seconds: Optional[float] = None) -> Sequence[Tuple[Optional[Line], str]]:
+        """Gives it lines, unless it takes none for that many seconds. One that has ended is noticed by its reader, who has the answers too."""
+        text, pipe = "".join(f"{line}\n" for line in lines).encode(), self._input.fileno()
         try:
             if seconds is None or select.select([], [pipe], [], seconds)[1]:
                 while text:
                     text = text[os.write(pipe, text):]
         except OSError:
             pass
+        return ()
 
     def read(self) -> Optional[str]:
         """The next line, without its line feed; None at the end, also if the last line is cut."""

@@ -1,9 +1,9 @@
 """Audits test cases: one legal order of all calls that the logs show, or what keeps it from being one."""
 from dataclasses import dataclass, field
-from typing import Iterator, List, Optional, Sequence, Tuple
+from typing import Iterator, List, Optional, Tuple
 
 from .cases import TestCase
-from .histories import Finding, block_of, show_to_check, verdict_of, why_none
+from .histories import Finding, block_of, verdict_of, why_none
 from .limits import MOST_NEXT, MOST_REMARKS
 from .search import FOUND, NONE, UNDECIDED, Answer, overall_of, search
 
@@ -81,11 +81,4 @@ def audited(case: TestCase, states: int) -> Audit:
         found.remarks.append(f"its order is not shown to ttrun check: {why}")
     else:
         found.blocks[""] = block_of(case, answer.entries)
-    return found
-
-
-def judged(cases: Sequence[TestCase], states: int, program: Optional[str]) -> List[Audit]:
-    """The audits of test cases, each order shown to `ttrun check`."""
-    found = [audited(it, states) for it in cases]
-    show_to_check(found, program, REFUSED)
     return found

@@ -5,14 +5,14 @@ import re
 import sys
 from collections import Counter, defaultdict
 from typing import Dict, Iterator, List, NamedTuple, NoReturn, Optional, Sequence, Tuple
+from xml.sax.saxutils import escape, quoteattr
 
 from . import audit as audits
 from . import flaky as luck
-from . import junit
 from .cases import TestCase, cases_of
+from .histories import found_program, page_of, show_to_check
 from .limits import MOST_BYTES_OF_A_SCRIPT, MOST_STATES, MOST_TEST_CASES_OF_A_SCRIPT, STATES
 from .lines import Refused
-from .program import found_program, page_of
 from .reading import read_case
 from .scripts import errors_in, script_of
 from .sessions import read_sessions
@@ -141,11 +141,45 @@ def seen_verdicts(cases: Sequence[TestCase]) -> Iterator[str]:
             yield f"seen: {name} had " + ", ".join(f"{it} {counts[it]} time{'s' * (counts[it] > 1)}" for it in VERDICTS if counts[it])
 
 
+class Row(NamedTuple):
+    """A test case of a JUnit report: `kind` is empty where it passed, otherwise `failure` or `error`."""
+
+    name: str
+    session: str
+    kind: str
+    message: str
+    lines: Sequence[str]
+
+
+def plain(text: str) -> str:
+    """The text without letters that XML has no place for."""
+    return re.sub(r"[^\t\n\x20-\ud7ff\ue000-\ufffd]", "?", text)
+
+
+def element_of(row: Row) -> List[str]:
+    found = [f"<testcase name={quoteattr(plain(row.name))} classname={quoteattr(plain(row.session))}>"]
+    if row.kind:
+        found.append(f"<{row.kind} type={quoteattr(row.kind)} message={quoteattr(plain(row.message))}/>")
+    if row.lines:
+        found += ["<system-out>", escape(plain("\n".join(row.lines))), "</system-out>"]
+    return [*found, "</testcase>"]
+
+
+def report_of(suite: str, rows: Sequence[Row]) -> str:
+    failures, errors = (sum(it.kind == kind for it in rows) for kind in ("failure", "error"))
+    counts = f'tests="{len(rows)}" failures="{failures}" errors="{errors}" skipped="0"'
+    lines = ['<?xml version="1.0" encoding="UTF-8"?>', f"<testsuites {counts}>", f"<testsuite name={quoteattr(suite)} {counts}>"]
+    for row in rows:
+        lines += element_of(row)
+    return "".join(f"{it}\n" for it in [*lines, "</testsuite>", "</testsuites>"])
+
+
 def run_judged(given: argparse.Namespace) -> int:
     """Judges each test case by `flaky` or `audit`, and says what was found."""
     program, found = program_of(given), read(given)
-    by = luck if given.command == "flaky" else audits
-    results = by.judged(found.cases, given.states, program)
+    by, look, refused = (luck, luck.looked_at, luck.UNEXPLAINED) if given.command == "flaky" else (audits, audits.audited, audits.REFUSED)
+    results = [look(it, given.states) for it in found.cases]
+    show_to_check(results, program, refused)
     lines, cases, blocks = list(told(found, program)), [], []
     for one, session in zip(results, found.sessions):
         # The page has the histories by their numbers: the first of this test case, and another one.
@@ -155,11 +189,11 @@ def run_judged(given: argparse.Namespace) -> int:
         if details:
             lines += [one.head, *(f"  {it}" for it in details), ""]
         kind = {0: "", 1: "failure"}.get(by.STATUS[one.outcome], "error")
-        cases.append(junit.Row(one.case.title, session, kind, one.head, details))
+        cases.append(Row(one.case.title, session, kind, one.head, details))
     write(given.history, "".join(blocks))
     if given.html is not None and program is not None:
         write(given.html, page_of(program, "".join(blocks)))
-    write(given.junit, junit.report_of(f"ttrun-titan {given.command}", cases))
+    write(given.junit, report_of(f"ttrun-titan {given.command}", cases))
     lines += [*table([by.COLUMNS, *(it.row() for it in results)]), *(seen_verdicts(found.cases) if by is luck else ())]
     show([*lines, tally([by.COUNTED[it.outcome] for it in results], tuple(by.COUNTED.values()))])
     return worst([by.STATUS[it.outcome] for it in results])

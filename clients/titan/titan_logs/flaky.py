@@ -1,10 +1,10 @@
 """Finds test cases whose verdict depended on luck: another order of the same calls gives another verdict."""
 import re
 from dataclasses import dataclass, field
-from typing import Dict, Iterator, List, Optional, Sequence, Set, Tuple
+from typing import Dict, Iterator, List, Sequence, Set, Tuple
 
 from .cases import Call, Run, TestCase
-from .histories import Finding, block_of, show_to_check, side_by_side, verdict_of, why_none
+from .histories import Finding, block_of, side_by_side, verdict_of, why_none
 from .limits import MOST_REMARKS
 from .playing import Entry
 from .search import Verdicts, verdicts_of
@@ -128,10 +128,3 @@ def parting(one: Luck) -> Iterator[str]:
         shown |= {int(it) for row in rows[1:] for it in re.findall(r"(?:^|\| )(\d+) ", row)}
     for run in [it for it in sorted(shown - {0}) if not one.case.runs[it].is_cut][:MOST_REMARKS]:
         yield about(one.case, one.case.runs[run])[:-1]
-
-
-def judged(cases: Sequence[TestCase], states: int, program: Optional[str]) -> List[Luck]:
-    """What was found of all test cases; each order was shown to `ttrun check`, and those that it refused are left out."""
-    found = [looked_at(it, states) for it in cases]
-    show_to_check(found, program, UNEXPLAINED)
-    return found

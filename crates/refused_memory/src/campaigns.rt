@@ -16,7 +16,7 @@ use tc_book::{Halt, Pass};
 use tc_campaign::{Case, run_campaign, run_campaign_with};
 use tc_entry::{BEHAVIOURS, Name, Pattern};
 use tc_exec::{Back, Callable, CaseError, Everyone, Job, run_case, run_case_with};
-use tc_report::{CampaignEnd, Kept, OutFault, Progress, Results};
+use tc_report::{CampaignEnd, Kept, OutFault, Progress, Results, Shown, Stopwatch};
 use tc_text::read_move;
 
 /// The names of the two test cases.
@@ -266,7 +266,7 @@ fn run_reported<R: Threads + Wait + Copy + Send + 'static>(
     rt: &R,
     alloc: Global,
     cases: Vec<Case<Caller<R>>>,
-    progress: &mut Progress<'_, Kept, Vec<u8>, NoClock>,
+    progress: &mut Progress<'_, '_, Kept, Vec<u8>, NoClock>,
 ) -> (bool, Result<(), OutFault>)
     requires { All HasNames cases.items }
 {
@@ -287,12 +287,18 @@ fn run_with_room<R: Threads + Wait + Copy + Send + 'static>(
     requires { All HasNames cases.items }
 {
     let alloc = trial.alloc;
+    // Each test case has its lines, without a name.
+    let each = Shown {
+        names: &[],
+        only: false,
+    };
+    let mut watch = Stopwatch::new(alloc, &NoClock, true);
     trial.begin("run_campaign_with Progress::end");
     let (is_complete, told) = run_reported(
         rt,
         alloc,
         cases,
-        &mut Progress::new(alloc, &NoClock, &[], None, kept, lines, failed),
+        &mut Progress::new(alloc, &mut watch, each, None, kept, lines, failed),
     );
     trial.holds(told != Err(OutFault::Write));
     if told.is_ok() && is_complete {

@@ -3,8 +3,7 @@ ghost use Rattle.tc_rules.specs.Prelude.{IsBehaviours};
 
 use crate::stock::Stock;
 use crate::tables::{MOST, call_lines};
-use crate::tells::{tell_left, tell_number, tell_pass};
-use crate::told::{Called, Told, made};
+use crate::tells::{Called, Told, made, tell_left, tell_number, tell_pass};
 use crate::trial::Trial;
 use std::alloc::Global;
 use std::sync::Wait;
@@ -392,6 +391,7 @@ pub(crate) fn ask<R: Wait + Copy>(rt: R, trial: &mut Trial) {
     ask_behind(rt, trial, "", "");
     ask_behind(rt, trial, FIRST, "");
     ask_behind(rt, trial, "0 stopcase", CALLS);
+    ask_behind(rt, trial, "0 stopcase", "0 stopcase");
 }
 
 /// What this ticket gives.

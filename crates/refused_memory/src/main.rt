@@ -6,12 +6,12 @@
 mod campaigns;
 mod cases;
 mod hands;
+mod programs;
 mod reports;
 mod stock;
 mod tables;
 mod tells;
 mod texts;
-mod told;
 mod trial;
 
 use crate::stock::Stock;
@@ -74,6 +74,7 @@ const MOST: u16 = 10_000;
 fn ask<R: Threads + Wait + Copy + Send + 'static>(rt: &R, trial: &mut Trial, stock: &Stock) {
     tables::ask(trial, stock);
     tables::play_in_room(trial);
+    texts::ask(trial, stock);
     reports::ask(trial, stock);
     hands::wake_both(trial);
     hands::call_both(trial);
@@ -97,17 +98,26 @@ fn make<R: Threads + Wait + Copy + Send + 'static>(
         Kind::State => tables::make_state(trial, stock),
         Kind::PlayState => tables::play_state(trial),
         Kind::Copy => tables::copy(trial, stock),
-        Kind::Read => texts::read(trial),
+        Kind::Read => {
+            texts::read(trial);
+            programs::read(trial);
+        }
         Kind::Write => texts::write(trial, stock),
         Kind::WritePart => texts::write_part(trial),
-        Kind::Form => reports::make(trial, stock),
+        Kind::Form => {
+            reports::make(trial, stock);
+            programs::write(trial, stock);
+        }
         Kind::Live => reports::write_live(trial),
         Kind::NewBoard => cases::make_boards(trial),
         Kind::Open => cases::open_all(trial),
         Kind::Call => cases::call(*rt, trial),
         Kind::LastCall => cases::call_last(*rt, trial),
         Kind::Close => cases::close(*rt, trial, stock),
-        Kind::Run => campaigns::run(rt, trial),
+        Kind::Run => {
+            campaigns::run(rt, trial);
+            programs::run(rt, trial);
+        }
         Kind::Quiet => ask(rt, trial, stock),
     }
 }

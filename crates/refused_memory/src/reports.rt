@@ -1,10 +1,10 @@
 //! The forms of histories and of results, the summaries that they are made of, and writers that write a campaign as it runs.
 use crate::stock::Stock;
-use crate::told::{Called, Told, call_again, made};
+use crate::tells::{Called, Told, call_again, made};
 use crate::trial::Trial;
 use tc_entry::{Name, NoMemory, Sequence};
 use tc_report::{
-    CampaignEnd, LiveForm, LiveWriter, OutFault, csv_report, junit_report, status_of,
+    CampaignEnd, LiveForm, LiveWriter, OutFault, Said, Times, csv_report, junit_report, status_of,
     summaries_of_results, summary_of_case, summary_of_state, summary_report, tally, worst_status,
     write_csv, write_evidence, write_history, write_junit, write_text,
 };
@@ -27,15 +27,19 @@ pub(crate) fn make(trial: &mut Trial, stock: &Stock) {
 
 /// The forms of histories.
 fn make_texts(trial: &mut Trial, stock: &Stock) {
-    if let Ok(cases) = summaries_of_results(trial.alloc, &[], &stock.results) {
-        trial.begin("csv_report junit_report summary_report");
-        made(csv_report(trial.alloc, &cases), NoMemory, trial);
+    let alloc = trial.alloc;
+    let times = Times::none(alloc);
+    if let Ok(cases) = summaries_of_results(alloc, &[], &stock.results) {
+        trial.begin("csv_report junit_report write_junit summary_report");
+        made(csv_report(alloc, &cases), NoMemory, trial);
         made(
-            junit_report(trial.alloc, VERSION, &None, &cases),
+            junit_report(alloc, VERSION, &None, &times, &cases),
             NoMemory,
             trial,
         );
-        made(summary_report(trial.alloc, &cases), NoMemory, trial);
+        let answer = write_junit(alloc, VERSION, &None, &times, &cases, &mut trial.out);
+        written(trial, answer);
+        made(summary_report(alloc, &cases), NoMemory, trial);
         trial.end();
         drop(cases);
     }
@@ -52,9 +56,7 @@ fn written(trial: &mut Trial, answer: Result<(), OutFault>) {
 /// The forms of results, to a writer that has room for them.
 fn write(trial: &mut Trial, stock: &Stock) {
     let (alloc, results) = (trial.alloc, &stock.results);
-    trial.begin("write_junit write_text write_csv write_history write_evidence");
-    let answer = write_junit(alloc, VERSION, &None, &[], results, &mut trial.out);
-    written(trial, answer);
+    trial.begin("write_text write_csv write_history write_evidence");
     let answer = write_text(alloc, results, &mut trial.out);
     written(trial, answer);
     let answer = write_csv(alloc, results, &mut trial.out);
@@ -71,9 +73,10 @@ fn summarize(trial: &mut Trial, stock: &Stock) {
     let cases = stock.results.finished.as_slice();
     if let Some((name, case)) = Name::read("first").zip(cases.first()) {
         let history = stock.table.history();
+        let said = Said::new(trial.alloc);
         trial.begin("summary_of_state summary_of_case summaries_of_results");
         made(
-            summary_of_state(trial.alloc, &name, &stock.state, history),
+            summary_of_state(trial.alloc, &name, &stock.state, history, &said),
             NoMemory,
             trial,
         );

@@ -1,8 +1,7 @@
 //! Calls on a table, on the state of a case, and on histories. There is room for the text of what they
 //! answer, so what an append to it returns is not looked at.
 use crate::stock::Stock;
-use crate::tells::{tell_entries, tell_number};
-use crate::told::{Called, Told, call_again, call_all, made};
+use crate::tells::{Called, Told, call_again, call_all, made, tell_entries, tell_number};
 use crate::trial::Trial;
 use std::alloc::Global;
 use tc_entry::{BEHAVIOURS, Comp, Entry, NoMemory, Op, Reply, Run, Sequence};

@@ -1,10 +1,56 @@
-//! The texts of the values that calls answer. There is room for them, so what an append returns is not looked at.
-use crate::told::Told;
+//! What calls answer and leave, as text, and calls that are made again if they are refused memory. There is room for the texts, so
+//! what an append returns is not looked at.
+use crate::trial::Trial;
 use tc_blocks::{History, write_block};
 use tc_book::{Closed, Left, Pass, RunLog};
 use tc_entry::{Comp, Entry, Name, Run, Verdict};
 use tc_report::{CaseEnd, Finished, Summary, append_verdict};
-use tc_text::{MoveList, append_number, write_move, write_op};
+use tc_text::{MoveList, append_number, write_move, write_op, write_reply};
+
+/// What has a text, by which one differs from another of its kind. A text that is cut short differs from the one that is wanted.
+pub(crate) trait Told: Drop {
+    /// Appends its text.
+    fn tell(&self, out: &mut Vec<u8>);
+}
+
+/// What calls are made on, each of which leaves it as before if it is refused memory.
+pub(crate) trait Called<A>: Told {
+    /// Makes a call, and appends how it is answered. Whether there was memory for it.
+    fn call(&mut self, with: &A, out: &mut Vec<u8>) -> bool;
+}
+
+/// Takes in the answer of a call, that it was refused memory too.
+pub(crate) fn made<T: Told, E: PartialEq + Drop>(
+    answer: Result<T, E>,
+    no_memory: E,
+    trial: &mut Trial,
+) {
+    match answer {
+        Ok(value) => value.tell(&mut trial.out),
+        Err(why) => trial.refuse(why == no_memory),
+    }
+    trial.end_call();
+}
+
+/// Makes a call, and makes it again if it is refused memory, which must change nothing.
+pub(crate) fn call_again<A, C: Called<A>>(trial: &mut Trial, on: &mut C, with: &A) {
+    trial.states.clear();
+    on.tell(&mut trial.states);
+    if !on.call(with, &mut trial.out) {
+        on.tell(&mut trial.states);
+        trial.refuse_again();
+        on.call(with, &mut trial.out);
+    }
+    on.tell(&mut trial.out);
+    trial.end_call();
+}
+
+/// Makes these calls, one after the other.
+pub(crate) fn call_all<A, C: Called<A>>(trial: &mut Trial, on: &mut C, list: &[A]) {
+    for with in list {
+        call_again(trial, on, with);
+    }
+}
 
 /// A number.
 pub(crate) fn tell_number(out: &mut Vec<u8>, number: usize) {
@@ -15,6 +61,14 @@ pub(crate) fn tell_number(out: &mut Vec<u8>, number: usize) {
 pub(crate) fn tell_entries(out: &mut Vec<u8>, number: u16, entries: &[Entry]) {
     if let Some(name) = Name::read("told") {
         let _ = write_block(out, &name, number, entries, Verdict::None);
+    }
+}
+
+/// The calls of a log, each with its reply.
+pub(crate) fn tell_calls(out: &mut Vec<u8>, log: &[Entry]) {
+    for entry in log {
+        let _ = write_move(out, entry.caller, &entry.op);
+        let _ = write_reply(out, &entry.reply);
     }
 }
 

@@ -231,6 +231,14 @@ fn log(alloc: Global) -> Result<RunLog, Fail> {
 }
 
 #[test]
+fn a_list_is_given_back(rt: HostRuntime) -> Result<(), Fail> {
+    let list = Sequence::new(vec![in rt.alloc(); Run(0), Run(1)]?);
+    is(&rt, "as_slice", list.as_slice().len(), 2);
+    is(&rt, "into_vec", list.into_vec().len(), 2);
+    Ok(())
+}
+
+#[test]
 fn logs_are_merged(rt: HostRuntime) -> Result<(), Fail> {
     let log = log(rt.alloc())?;
     let all = merge(rt.alloc(), &[entry_of(Op::Finish)], &[log])?;

@@ -82,3 +82,25 @@ fn a_gate_refuses_a_worker(rt: HostRuntime) -> Result<(), Fail> {
     is(&rt, "who was asked for", gate.asked, Some(Run(1)));
     Ok(())
 }
+
+fn words_of(refusal: CaseError) -> &'static str {
+    match refusal {
+        CaseError::NoBehaviours => "no behaviours",
+        CaseError::TooManyBehaviours => "too many behaviours",
+        CaseError::NoMemory => "no memory",
+        CaseError::NoThread => "no thread",
+        CaseError::Torn => "torn",
+    }
+}
+
+#[test]
+fn a_case_without_behaviours_is_refused(rt: HostRuntime) -> Result<(), Fail> {
+    let job: Boxed = Box::new(rt.alloc(), move |pass: Pass| sets_pass(pass))?;
+    let mut jobs = vec![in rt.alloc(); Job::new(job)]?;
+    jobs.clear();
+    let refused = run_case(&rt, rt.alloc(), jobs, 1).err();
+    is(&rt, "the refusal", refused, Some(CaseError::NoBehaviours));
+    let many = CaseError::TooManyBehaviours;
+    is(&rt, "the words", many.text(), words_of(many));
+    Ok(())
+}

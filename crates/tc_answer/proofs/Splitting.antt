@@ -1,11 +1,8 @@
 -- The end of the script of a text, byte by byte, and the text of a fault, by its place and its words.
-use Rattle.std.proofs.Common.{ℕ, suc, ◌≡◌, ◌∙◌, ◌+◌, ◌<◌, ◌≤◌, ◌==◌, ◌&&◌, Bool, true, false, if◌then◌else◌, List, ◌∷◌, length, get_or, drop, sym, ap, refl}
-use Rattle.std.proofs.lemmas.List.{drop_more, drop_all}
-use Rattle.tc_text.specs.Prelude.{text_kind_text}
-use Rattle.tc_text.specs.declared.fault.TextFault.{TextFault}
+use Rattle.std.proofs.{Common.{ℕ, suc, ◌≡◌, ◌∙◌, ◌+◌, ◌<◌, ◌≤◌, ◌==◌, ◌&&◌, Bool, true, false, if◌then◌else◌, List, ◌∷◌, length, get_or, drop, sym, ap, refl}, lemmas.List.{drop_more, drop_all}}
+use Rattle.tc_text.specs.{Prelude.text_kind_text, declared.fault.TextFault.TextFault}
 use Rattle.tc_reader.specs.Prelude.{script_kind_text}
-use Rattle.tc_answer.specs.{Fault.number_of, Fault.run_fault_text, Input.begins_block, Input.script_bytes, Inside.placed, Inside.words_of, declared.fault.RunFault.RunFault}
-use Rattle.tc_answer.proofs.Lemmas.Chosen.{at_place}
+use Rattle.tc_answer.{specs.{Fault.{number_of, run_fault_text}, Input.{begins_block, script_bytes}, Inside.{placed, words_of}, declared.fault.RunFault.RunFault}, proofs.Lemmas.Chosen.at_place}
 
 first_by : (begins : Bool) (b : ℕ) (bs : List ℕ) → (begins && begins_block (b ∷ bs)) ≡ true → script_bytes begins (b ∷ bs) ≡ 0
 unfolding script_bytes

@@ -1,6 +1,5 @@
 -- The test cases of a script, and which test cases of a campaign are chosen.
-use Rattle.std.specs.Prelude.{ℕ, ◌≡◌, ◌+◌, ◌<◌, ◌==◌, ◌||◌, Bool, true, List, [], ◌∷◌, Option, Some, None, filter, if◌then◌else◌, length, Ok, Err, false, map}
-use Rattle.std.specs.List.{list_all, list_any}
+use Rattle.std.specs.{Prelude.{ℕ, ◌≡◌, ◌↔◌, ◌+◌, ◌<◌, ◌==◌, ◌||◌, Bool, true, List, [], ◌∷◌, Option, Some, None, filter, if◌then◌else◌, length, Ok, Err, false, map}, List.{list_all, list_any}}
 use Rattle.tc_exec.specs.declared.test_case.Case.{Case}
 use Rattle.tc_rules.specs.Prelude.{matches, IsShard, ShardView, has_place}
 use Rattle.tc_command.specs.declared.task.Choice.{Choice}
@@ -35,17 +34,10 @@ module _ {C : Type 0} (name_of : C → List ℕ) where
 abbrev pub case_name : {B : Type 0} → Case B → List ℕ
 case_name c = c.name
 
--- of that many shards one has the test case at this place, and no other has it
-pub record IsInOne (shards place : ℕ) : Type 0 where
-  pub holder : ShardView
-  pub is_shard : IsShard holder
-  pub is_of : holder.shards ≡ shards
-  pub has : has_place holder place ≡ true
-  pub alone : (s : ShardView) → IsShard s → s.shards ≡ shards → has_place s place ≡ true → s.place ≡ holder.place
-
--- all shards of that many, one at least, have each test case exactly once
+-- of all shards of that many, one at least, exactly one has the test case at a place: the k-th
 abbrev pub ShardsAreAll : Type 0
-ShardsAreAll = (shards : ℕ) → 0 < shards → (place : ℕ) → IsInOne shards place
+ShardsAreAll = (shards : ℕ) → 0 < shards → (place : ℕ) →
+    (k : ℕ) × (k < shards) × ((s : ShardView) → IsShard s → s.shards ≡ shards → (has_place s place ≡ true) ↔ (s.place ≡ k))
 
 -- a test case of a script: its name, and its behaviours by name
 abbrev pub CaseView : Type 0

@@ -1,13 +1,11 @@
 -- The faults of the program, and their lines on standard error.
 use Rattle.std.specs.Prelude.{ℕ, List, [], ◌∷◌, ◌++◌, Option, None, Some, codes}
-use Rattle.tc_stream.specs.declared.input.InputFault.{InputFault}
-use Rattle.tc_stream.specs.Prelude.{input_text, write_text}
+use Rattle.tc_stream.specs.{declared.input.InputFault.InputFault, Prelude.{input_text, write_text}}
 use Rattle.tc_rules.specs.Prelude.{memory_text}
 use Rattle.tc_text.specs.Prelude.{fault_text as text_fault_text}
 use Rattle.tc_text.specs.declared.fault.TextFault.{TextFault}
 use Rattle.tc_reader.specs.Prelude.{script_fault_text}
-use Rattle.tc_command.specs.Prelude.{word_fault_text}
-use Rattle.tc_command.specs.declared.word.WordFault.{WordFault}
+use Rattle.tc_command.specs.{Prelude.word_fault_text, declared.word.WordFault.WordFault}
 use Rattle.tc_answer.specs.declared.fault.RunFault.{RunFault}
 
 -- a text is refused by such a fault of it; if memory runs out, nothing is said about it

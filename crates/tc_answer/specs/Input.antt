@@ -1,6 +1,5 @@
 -- Why there is no input of a task, and the two parts of a text: a script, and the blocks after it.
-use Rattle.std.specs.Prelude.{ℕ, ◌<◌, List, Option, IfSome, length, suc, ◌==◌, ◌&&◌, ◌||◌, Bool, true, if◌then◌else◌, [], ◌∷◌, codes, drop, take, nat_eq}
-use Rattle.std.specs.List.{starts_with}
+use Rattle.std.specs.{Prelude.{ℕ, ◌<◌, List, Option, IfSome, length, suc, ◌==◌, ◌&&◌, ◌||◌, Bool, true, if◌then◌else◌, [], ◌∷◌, codes, drop, take, nat_eq}, List.starts_with}
 use Rattle.tc_answer.specs.declared.fault.RunFault.{RunFault}
 
 -- the input was not read whole: it has more bytes, or the device failed, or memory ran out

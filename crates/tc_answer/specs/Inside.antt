@@ -1,17 +1,13 @@
 -- What the functions inside of this crate say, and those of the tasks above it, which no clause of the program names.
-use Rattle.std.specs.Prelude.{ℕ, ◌≡◌, ◌⊎◌, All, Bool, false, Option, Some, None, List, ◌++◌, map, codes, filter}
-use Rattle.std.specs.{Fmt.decimal, Io.KnownBytes.Appends, List.AllZip}
+use Rattle.std.specs.{Prelude.{ℕ, ◌≡◌, All, Bool, false, Option, Some, None, List, ◌++◌, map, codes, filter}, Fmt.decimal, List.AllZip}
 use Rattle.tc_reader.specs.Prelude.{Word, has_twice, script_kind_text, CampaignView, IsCase}
 use Rattle.tc_rules.specs.Prelude.{memory_text}
-use Rattle.tc_stream.specs.declared.input.InputFault.{InputFault}
-use Rattle.tc_stream.specs.Prelude.{input_text, write_text, AppendsPrefix}
-use Rattle.tc_text.specs.Prelude.{text_kind_text}
-use Rattle.tc_command.specs.Prelude.{word_fault_text}
-use Rattle.tc_command.specs.declared.{task.Choice.Choice, word.WordFault.WordFault}
-use Rattle.tc_text.specs.declared.fault.TextFault.{TextFault}
+use Rattle.tc_stream.specs.{declared.input.InputFault.InputFault, Prelude.{input_text, write_text}}
+use Rattle.tc_text.specs.{Prelude.text_kind_text, declared.fault.TextFault.TextFault}
+use Rattle.tc_command.specs.{Prelude.word_fault_text, declared.{task.Choice.Choice, word.WordFault.WordFault}}
 use Rattle.tc_step.specs.Prelude.{ScriptView}
 use Rattle.tc_exec.specs.declared.test_case.Case.{Case}
-use Rattle.tc_answer.specs.{Choosing.AreChosen, Choosing.CaseView, Choosing.is_asked, Choosing.scripts_of, Fault.run_fault_line, Stderr.IsPrintedRefusal, Stderr.IsTold, Stderr.Streams, declared.fault.RunFault.RunFault, declared.outcome.Outcome.Outcome, declared.reply.Answer.Answer}
+use Rattle.tc_answer.specs.{Choosing.{AreChosen, CaseView, is_asked, scripts_of}, declared.fault.RunFault.RunFault}
 
 -- the name of a test case of a script
 abbrev pub script_name : CaseView → Word
@@ -80,12 +76,6 @@ AreReady choice text = AreReadyAs (AreChosen choice text)
 -- the name of a test case, the names of its behaviours, and its scripts
 abbrev pub case_parts : Case ScriptView → List ℕ × (List (List ℕ) × List ScriptView)
 case_parts k = (k.name, (k.names.items, k.jobs.items))
-
--- the answer was written and printed, and the status is its; or the writer failed, and that is printed
-abbrev pub GivesAnswer : Answer → Streams → Outcome → Type 0
-GivesAnswer a s outcome =
-    (Appends s.before s.after a.out × IsTold s.untold s.told a.told outcome.told × (outcome.status ≡ a.status))
-    ⊎ (AppendsPrefix s.before s.after a.out × IsPrintedRefusal s.untold s.told (run_fault_line RunFault.Write) outcome)
 
 -- those whose names are asked for, in their order
 abbrev pub named : {C : Type 0} → (C → List ℕ) → List (List ℕ) → List C → List C

@@ -1,6 +1,5 @@
 -- The page of a text.
-use Rattle.std.specs.Prelude.{ℕ, ◌≡◌, ◌==◌, nat_lt, not, true, if◌then◌else◌, List, [], ◌∷◌, ◌++◌}
-use Rattle.std.specs.List.{flat_map, list_all}
+use Rattle.std.specs.{Prelude.{ℕ, ◌≡◌, ◌==◌, nat_lt, not, true, if◌then◌else◌, List, [], ◌∷◌, ◌++◌}, List.{flat_map, list_all}}
 use Rattle.tc_answer.specs.declared.{head.TheConstants.HEAD, tail.TheConstants.TAIL}
 
 -- how a page holds a text: `<`, which is 60, as the character U+2039, and any other byte as it is

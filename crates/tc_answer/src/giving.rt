@@ -1,5 +1,5 @@
 //! How an answer is given.
-ghost use Rattle.tc_answer.specs.{Inside.GivesAnswer, Stderr.held_streams};
+ghost use Rattle.tc_answer.specs.Stderr.{GivesAnswer, held_streams};
 
 use crate::fault::RunFault;
 use crate::outcome::Outcome;

@@ -1,10 +1,7 @@
 -- The first line of a block.
-use Rattle.std.proofs.Common.{ℕ, ◌≡◌, ◌≢◌, ◌∙◌, Bool, true, false, List, [], ◌∷◌, ◌++◌, ap, sym, append_assoc, refl, arith}
-use Rattle.std.specs.Fmt.{decimal}
-use Rattle.tc_text.specs.Prelude.{lines_of, EndsLine, EndsNumber}
-use Rattle.tc_text.proofs.Lemmas.LinesOf.{line_ended, first_line}
-use Rattle.tc_blocks.specs.{Block.header_text, Block.kind_text, Inside.IsFirst, Text.IsHeader, declared.header.Header.Header, declared.header.Kind.Kind}
-use Rattle.tc_blocks.proofs.Lemmas.Bytes.{header_quiet, plain_no_lf, quiet_plain}
+use Rattle.std.{proofs.Common.{ℕ, ◌≡◌, ◌≢◌, ◌∙◌, Bool, true, false, List, [], ◌∷◌, ◌++◌, ap, sym, append_assoc, refl, arith}, specs.Fmt.decimal}
+use Rattle.tc_text.{specs.Prelude.{lines_of, EndsLine, EndsNumber}, proofs.Lemmas.LinesOf.{line_ended, first_line}}
+use Rattle.tc_blocks.{specs.{Block.{header_text, kind_text}, Inside.IsFirst, Text.IsHeader, declared.header.{Header.Header, Kind.Kind}}, proofs.Lemmas.Bytes.{header_quiet, plain_no_lf, quiet_plain}}
 
 header_assoc : (h : Header) (rest : List ℕ) → header_text h ++ rest ≡ kind_text h.kind ++ (h.name ++ (32 ∷ (decimal h.behaviours ++ rest)))
 header_assoc h rest =
@@ -13,8 +10,7 @@ header_assoc h rest =
 
 some_kind : (k : Kind) (rest : List ℕ) → kind_text k ++ rest ≢ []
 some_kind Kind.History1 rest = λ e. cc
-some_kind Kind.History2 rest = λ e. cc
-some_kind Kind.Evidence rest = λ e. cc
+some_kind _ rest = λ e. cc
 
 pub header_spelled : (text r1 r2 r3 r4 behind : List ℕ) (h : Header) → text ≡ kind_text h.kind ++ r1 → r1 ≡ h.name ++ r2 → r2 ≡ 32 ∷ r3 → r3 ≡ decimal h.behaviours ++ r4 → EndsLine r4 behind → IsHeader h →
     lines_of text ≡ header_text h ∷ lines_of behind

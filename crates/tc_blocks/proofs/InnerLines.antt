@@ -1,38 +1,22 @@
 -- The lines of entries and the last line of a block.
-use Rattle.std.proofs.Common.{ℕ, ◌≡◌, ◌∙◌, true, false, List, [], ◌∷◌, ◌++◌, codes, ap, sym, refl, append_assoc, arith, rules, subst, reverse}
+use Rattle.std.proofs.Common.{ℕ, ◌≡◌, ◌↔◌, ◌∙◌, List, [], ◌∷◌, ◌++◌, codes, ap, sym, refl, append_assoc, arith, rules, subst, reverse}
 use Rattle.tc_rules.specs.Prelude.{Run, Verdict, name_of, Entry, Op, Fault, Reply, fault_name, overall, IsLegal}
-use Rattle.tc_text.specs.declared.short.ShortOp.{ShortOp}
-use Rattle.tc_text.specs.Prelude.{lines_of, EndsMove, EndsLine, op_of, move_text, reply_text, IsReply}
-use Rattle.tc_text.proofs.Lemmas.{LinesOf.NoLf, LinesOf.first_line, LinesOf.line_ended, LinesOf.no_lf-append, LinesOf.same_behind, LinesOf.move_plain, LinesOf.number_plain, LinesOf.some_move}
-use Rattle.tc_blocks.specs.{HistoryBlock.end_text, HistoryBlock.entry_text, HistoryBlock.outcome_text, HistoryText.IsEntry, HistoryText.IsUnnamed, Laws.RemarksSayNothing, Line.entries_of, Line.entry_in, declared.line.Line.Line}
+use Rattle.tc_text.{specs.{declared.short.ShortOp.ShortOp, Prelude.{lines_of, EndsMove, EndsLine, op_of, move_text, reply_text, IsReply}}, proofs.Lemmas.LinesOf.{NoLf, first_line, line_ended, no_lf-append, same_behind, move_plain, number_plain, some_move}}
+use Rattle.tc_blocks.specs.{HistoryBlock.{end_text, entry_text}, Inside.outcome_text, HistoryText.{IsUnnamed, IsEntry}, Laws.{LinesAreLegal, overall_of}, Line.{entries_of, entry_in}, declared.line.Line.Line}
 
 pub verdict_plain : (v : Verdict) → NoLf (name_of v)
 verdict_plain Verdict.None = search rules
-verdict_plain Verdict.Pass = search rules
-verdict_plain Verdict.Inconc = search rules
-verdict_plain Verdict.Fail = search rules
-verdict_plain Verdict.Error = search rules
+verdict_plain _ = search rules
 
 fault_plain : (f : Fault) → NoLf (fault_name f)
 fault_plain Fault.NoComponent = search rules
-fault_plain Fault.NotMain = search rules
-fault_plain Fault.StartMain = search rules
-fault_plain Fault.AlreadyRunning = search rules
-fault_plain Fault.NotStartable = search rules
-fault_plain Fault.NoBehaviour = search rules
-fault_plain Fault.TooMany = search rules
-fault_plain Fault.Stuck = search rules
+fault_plain _ = search rules
 
 pub reply_plain : (r : Reply) → IsReply r → NoLf (reply_text r)
 reply_plain (Reply.Made c) fits = no_lf-append (codes "made ") _ (search rules) (number_plain c.0 fits)
-reply_plain Reply.Ok fits = search rules
-reply_plain (Reply.Answer true) fits = search rules
-reply_plain (Reply.Answer false) fits = search rules
 reply_plain (Reply.Local v) fits = verdict_plain v
-reply_plain Reply.Matched fits = search rules
-reply_plain Reply.Parked fits = search rules
-reply_plain Reply.Ended fits = search rules
 reply_plain (Reply.Fault f) fits = no_lf-append (codes "error ") (fault_name f) (search rules) (fault_plain f)
+reply_plain _ fits = search rules
 
 -- ---- the last line
 
@@ -173,30 +157,18 @@ same_parts run op reply e caller operation replied =
 -- a short operation gives no component a name
 pub short_unnamed : (s : ShortOp) → IsUnnamed (op_of s)
 short_unnamed (ShortOp.Create alive) = tt
-short_unnamed (ShortOp.Stop g) = tt
-short_unnamed (ShortOp.Kill g) = tt
-short_unnamed ShortOp.StopCase = tt
-short_unnamed (ShortOp.Running t) = tt
-short_unnamed (ShortOp.Alive t) = tt
-short_unnamed (ShortOp.Done t) = tt
-short_unnamed (ShortOp.Killed t) = tt
-short_unnamed (ShortOp.WaitDone t) = tt
-short_unnamed (ShortOp.WaitKilled t) = tt
-short_unnamed (ShortOp.WakeDone t) = tt
-short_unnamed (ShortOp.WakeKilled t) = tt
-short_unnamed (ShortOp.SetVerdict v) = tt
-short_unnamed ShortOp.GetVerdict = tt
-short_unnamed ShortOp.Finish = tt
+short_unnamed _ = tt
 
-same_entries : (before after : List Line) (l : Line) → entry_in l ≡ [] → entries_of (before ++ l ∷ after) ≡ entries_of (before ++ after)
+pub same_entries : (before after : List Line) (l : Line) → entry_in l ≡ [] → entries_of (before ++ l ∷ after) ≡ entries_of (before ++ after)
 same_entries [] after l none = ap (λ x. x ++ entries_of after) none
 same_entries (x ∷ xs) after l none = ap (λ y. entry_in x ++ y) (same_entries xs after l none)
 
-pub remarks_say_nothing : RemarksSayNothing
-remarks_say_nothing n before after l none =
+pub same_legal : (n : ℕ) (before after : List Line) (l : Line) → entry_in l ≡ [] → LinesAreLegal n (before ++ l ∷ after) ↔ LinesAreLegal n (before ++ after)
+same_legal n before after l none =
     let same = same_entries before after l none in
-    record {
-      history = same;
-      legal = (subst (λ (es : List Entry). IsLegal n (reverse es)) same, subst (λ (es : List Entry). IsLegal n (reverse es)) (sym same));
-      verdict = ap (λ (es : List Entry). overall (reverse es)) same;
-    }
+    (subst (λ (es : List Entry). IsLegal n (reverse es)) same, subst (λ (es : List Entry). IsLegal n (reverse es)) (sym same))
+
+pub same_overall : (before after : List Line) (l : Line) → entry_in l ≡ [] → overall_of (before ++ l ∷ after) ≡ overall_of (before ++ after)
+same_overall before after l none = ap (λ (es : List Entry). overall (reverse es)) (same_entries before after l none)
+
+pub ruleset remark_rules = (same_entries, same_legal, same_overall)

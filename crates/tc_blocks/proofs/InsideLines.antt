@@ -1,11 +1,8 @@
 -- How far the lines inside a block are read.
-use Rattle.std.proofs.Common.{ℕ, ◌≡◌, ◌≢◌, ◌∙◌, ◌+◌, ◌≤◌, List, [], ◌∷◌, ◌++◌, length, map, ap, sym, subst, refl, append_assoc, arith}
-use Rattle.std.proofs.lemmas.List.{append-nil, length-append, map-append}
+use Rattle.std.proofs.{Common.{ℕ, ◌≡◌, ◌≢◌, ◌∙◌, ◌+◌, ◌≤◌, List, [], ◌∷◌, ◌++◌, length, map, ap, sym, subst, refl, append_assoc, arith}, lemmas.List.{append-nil, length-append, map-append}}
 use Rattle.tc_rules.specs.Prelude.{Verdict}
-use Rattle.tc_text.specs.Prelude.{lines_of}
-use Rattle.tc_text.proofs.Lemmas.LinesOf.{some_line}
-use Rattle.tc_blocks.specs.{HistoryBlock.end_text, Inside.AreInside, Inside.IsBadInside, Inside.IsLineTakenBy, Inside.IsNext, Inside.IsNoLine, Inside.IsOpenTo, Inside.Remains, Line.line_text, Met.AreMet, Text.AreLines, Text.IsLine, declared.header.Header.Header, declared.header.Kind.Kind, declared.line.Line.Line, declared.met.MetRuns.MetRuns}
-use Rattle.tc_blocks.proofs.Lemmas.Meeting.{met_after}
+use Rattle.tc_text.{specs.Prelude.lines_of, proofs.Lemmas.LinesOf.some_line}
+use Rattle.tc_blocks.{specs.{HistoryBlock.end_text, Inside.{AreInside, IsBadInside, IsLineTakenBy, IsNext, IsNoLine, IsOpenTo, Remains}, Line.line_text, Met.AreMet, Text.{AreLines, IsLine}, declared.{header.{Header.Header, Kind.Kind}, line.Line.Line, met.MetRuns.MetRuns}}, proofs.Lemmas.Meeting.met_after}
 
 -- the first line is no last line of a block
 abbrev pub IsNoEndLine : List ℕ → Type 0

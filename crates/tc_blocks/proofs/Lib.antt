@@ -1,4 +1,5 @@
 -- The lemmas of this crate.
+pub mod BlockBytes
 pub mod Headers
 pub mod InsideLines
 pub mod Lemmas

@@ -1,10 +1,8 @@
 -- The next line inside a block: which it is, or that it is none.
-use Rattle.std.proofs.Common.{ℕ, ◌≡◌, ◌∙◌, ◌<◌, ◌^◌, Bool, true, false, Option, None, Some, MatchOption, List, ◌∷◌, length, ap, sym, subst, refl, arith}
-use Rattle.std.specs.Borrow.{Bor}
+use Rattle.std.{proofs.Common.{ℕ, ◌≡◌, ◌∙◌, ◌<◌, ◌^◌, Bool, true, false, Option, None, Some, MatchOption, List, ◌∷◌, length, ap, sym, subst, refl, arith}, specs.Borrow.Bor}
 use Rattle.tc_rules.specs.Prelude.{Run, IsName, Entry}
 use Rattle.tc_text.specs.Prelude.{lines_of}
-use Rattle.tc_blocks.specs.{HistoryBlock.entry_text, HistoryText.IsEntry, Inside.ArePlain, Inside.IsFound, Inside.IsNext, Inside.IsNoEntryLine, Inside.IsNone, Inside.IsNote, Inside.IsSaidBy, Inside.line_said, Line.is_met, Line.line_text, Line.naming_text, Line.said_text, Sentence.IsSentence, Text.IsLine, Text.format_of, declared.header.Kind.Kind, declared.line.Line.Line}
-use Rattle.tc_blocks.proofs.Lemmas.Notes.{entry_not_naming, entry_not_said, said_not_naming, sentence_plain}
+use Rattle.tc_blocks.{specs.{HistoryBlock.entry_text, HistoryText.IsEntry, Inside.{ArePlain, IsFound, IsNext, IsNoEntryLine, IsNone, IsNote, IsSaidBy, line_said}, Line.{is_met, line_text, naming_text, said_text}, Sentence.IsSentence, Text.{IsLine, format_of}, declared.{header.Kind.Kind, line.Line.Line}}, proofs.Lemmas.Notes.{entry_not_naming, entry_not_said, said_not_naming, sentence_plain}}
 
 head_is : (x y : List ℕ) (xs ys : List (List ℕ)) → x ∷ xs ≡ y ∷ ys → x ≡ y
 head_is x y xs ys e = cc
@@ -23,10 +21,9 @@ abbrev pub IsNoSaid : ℕ → List ℕ → Type 0
 IsNoSaid n text = (r : Bool) (k : ℕ) (sentence : List ℕ) (others : List (List ℕ)) → k < n → ArePlain sentence → lines_of text ≡ said_text r k sentence ∷ others → ⊥
 
 pub said_none : (n : ℕ) (text : List ℕ) → IsNoSaid n text → IsNone (IsSaidBy n) text
-said_none n text none (Line.Named run name) others fits lines = absurd fits
-said_none n text none (Line.Entry e) others fits lines = absurd fits
 said_none n text none (Line.Remark run sentence) others fits lines = none false run.0 sentence others fits.0 (sentence_plain sentence fits.1.plain) lines
 said_none n text none (Line.Refused run sentence) others fits lines = none true run.0 sentence others fits.0 (sentence_plain sentence fits.1.plain) lines
+said_none n text none _ others fits lines = absurd fits
 
 pub no_sentence : (n : ℕ) (text : List ℕ) (run : Run) (refused : Bool) (bytes rest : List ℕ) → IsThatSaid n text run refused bytes rest → (IsSentence bytes → ⊥) → IsNone (IsSaidBy n) text
 no_sentence n text run refused bytes rest only none = said_none_by
@@ -93,10 +90,9 @@ note_of_said n before text none None is = none_by
 note_of_said n before text none (Some r) is = record { spelled = is.spelled; fits = fits_by r.0 is.fits; less = is.less; only = only_by }
   where
     fits_by : (l : Line) → IsSaidBy n l → IsNote n before l
-    fits_by (Line.Named run name) said = absurd said
-    fits_by (Line.Entry e) said = absurd said
     fits_by (Line.Remark run sentence) said = (tt, record { evidence = refl; few = said.0; sentence_is = said.1 })
     fits_by (Line.Refused run sentence) said = (tt, record { evidence = refl; few = said.0; sentence_is = said.1 })
+    fits_by _ said = absurd said
 
     only_by : (m : Line) (others : List (List ℕ)) → IsNote n before m → lines_of text ≡ line_text m ∷ others → (r.0 ≡ m) × (lines_of r.1.now ≡ others)
     only_by (Line.Named run name) others fits lines = absurd (none run.0 name others fits.1.few fits.1.name_is lines)

@@ -1,13 +1,8 @@
 -- Blocks, read part by part.
-use Rattle.std.proofs.Common.{ℕ, Bool, ◌≡◌, ◌≢◌, ◌∙◌, ◌+◌, ◌<◌, ◌≤◌, ◌^◌, ◌⊎◌, inl, inr, true, false, is_some, Option, None, Some, List, [], ◌∷◌, ◌++◌, length, map, ap, sym, subst, refl, append_assoc, arith}
-use Rattle.std.proofs.lemmas.List.{append-nil, length-append, length-map, map-append, nil_from_length}
-use Rattle.std.specs.Borrow.{Bor}
+use Rattle.std.{proofs.{Common.{ℕ, Bool, ◌≡◌, ◌≢◌, ◌∙◌, ◌+◌, ◌<◌, ◌≤◌, ◌^◌, ◌⊎◌, inl, inr, true, false, is_some, Option, None, Some, List, [], ◌∷◌, ◌++◌, length, map, ap, sym, subst, refl, append_assoc, arith}, lemmas.List.{append-nil, length-append, length-map, map-append, nil_from_length}}, specs.Borrow.Bor}
 use Rattle.tc_rules.specs.Prelude.{Verdict}
-use Rattle.tc_text.specs.declared.fault.{TextFault.TextFault, TextKind.TextKind}
-use Rattle.tc_text.specs.Prelude.{lines_of}
-use Rattle.tc_text.proofs.Lemmas.LinesOf.{some_line}
-use Rattle.tc_blocks.specs.{Block.header_text, HistoryBlock.end_text, Inside.AreInside, Inside.AreRead, Inside.AreTakenBy, Inside.GoesOn, Inside.IsBadInside, Inside.IsFirst, Inside.IsInsideFault, Inside.IsOpenTo, Inside.IsOpened, Inside.IsReadBy, Inside.IsReadOn, Inside.IsReadTo, Inside.IsRefused, Inside.IsWholeOf, Inside.Others, Inside.Refuses, Inside.Remains, Line.line_text, Met.AreMet, Text.AreBlocks, Text.AreLines, Text.AreWhole, Text.CanContinue, Text.IsBlock, Text.IsFault, Text.IsFaultAfter, Text.IsFaultAt, Text.IsLine, Text.IsTextOf, Text.all_lines, Text.block_lines, Text.open_lines, declared.block.Block.Block, declared.header.Header.Header, declared.header.Kind.Kind, declared.line.Line.Line, declared.met.MetRuns.MetRuns, declared.reading.OpenBlock.OpenBlock, declared.reading.Reading.Reading}
-use Rattle.tc_blocks.proofs.{InsideLines.head_is, InsideLines.none_yet, InsideLines.tail_is, Lemmas.Notes.line_no_end}
+use Rattle.tc_text.{specs.{declared.fault.{TextFault.TextFault, TextKind.TextKind}, Prelude.lines_of}, proofs.Lemmas.LinesOf.some_line}
+use Rattle.tc_blocks.{specs.{Block.header_text, HistoryBlock.end_text, Inside.{AreInside, AreRead, AreTakenBy, GoesOn, IsBadInside, IsFirst, IsInsideFault, IsOpenTo, IsOpened, IsReadBy, IsReadOn, IsReadTo, IsRefused, IsWholeOf, Others, Refuses, Remains, open_lines, opened}, Line.line_text, Met.AreMet, Text.{AreBlocks, AreLines, AreWhole, CanContinue, IsBlock, IsFault, IsFaultAfter, IsFaultAt, IsLine, IsTextOf, all_lines, block_lines}, declared.{block.Block.Block, header.{Header.Header, Kind.Kind}, line.Line.Line, met.MetRuns.MetRuns, reading.{OpenBlock.OpenBlock, Reading.Reading}}}, proofs.{InsideLines.{head_is, none_yet, tail_is}, Lemmas.Notes.line_no_end}}
 
 -- the first line is none that a block may have
 abbrev pub IsNoHeaderLine : (Header → Type 0) → List ℕ → Type 0
@@ -457,6 +452,23 @@ gone_more {H} {O} stands opens before middle after text rest behind so one room 
         let next = one.goes (lines ++ done.taken) (as_first stands opens before.only_histories middle.only_histories (lines ++ done.taken) middle.made middle.block middle.line so.on.same done.read) in
         on_from stands opens (IsFirst before.only_histories) lines done.taken text rest behind after.made after.block after.line done.lines
         (subst (λ (o : Bool). IsReadOn stands opens (IsFirst o) (lines ++ done.taken) rest behind after.made after.block after.line) so.on.same next)
+
+-- a reading whose block is open
+pub with_open : {H O : Type 0} (r : Reading H O) (block : OpenBlock O) → r.block ≡ Some block → opened r block ≡ r
+with_open r block is = ap (λ b. record r { block = b }) (sym is)
+
+-- a block begins with the first line of the text
+pub block_begins : {H O : Type 0} (stands : List Block → H → Type 0) (opens : ℕ → Header → List Line → O → Type 0) (reading : Reading H O) (text rest : List ℕ) (h : Header) (block : OpenBlock O) → reading.block ≡ None →
+    lines_of text ≡ header_text h ∷ lines_of rest → IsFirst reading.only_histories h → IsThatHeader (IsFirst reading.only_histories) text h rest → block.kind ≡ h.kind → block.behaviours ≡ h.behaviours → AreMet block.met [] → opens reading.line h [] block.begun →
+    length rest < length text → IsGoneOn stands opens reading text (opened (record reading { line = reading.line + 1 }) block) rest
+block_begins stands opens reading text rest h block closed spelled header only kind few met opened_is less = record {
+  on = record {
+    same = refl;
+    goes = λ before so.
+        begun stands opens (IsFirst reading.only_histories) before text rest reading.made reading.line h block (with_none stands opens before reading closed so) spelled header only kind few met opened_is;
+  };
+  room = omega (arith, less);
+}
 
 pub refused_more : {H O : Type 0} (stands : List Block → H → Type 0) (opens : ℕ → Header → List Line → O → Type 0) (before middle : Reading H O) (text rest : List ℕ) (fault : TextFault) → IsGoneOn stands opens before text middle rest → Refuses stands opens middle rest fault →
     Refuses stands opens before text fault

@@ -1,14 +1,7 @@
 -- Texts that come as bytes, part by part.
-use Rattle.std.proofs.Common.{ℕ, Bool, true, false, ◌≡◌, ◌≢◌, ◌==◌, ◌∙◌, ◌+◌, ◌-◌, ◌<◌, ◌≤◌, if◌then◌else◌, Option, None, Some, Result, Ok, Err, IfOk, IfErr, IfSome, List, [], ◌∷◌, ◌++◌, length, take, drop, slice_index, ap, sym, subst, refl, append_assoc, arith}
-use Rattle.std.specs.{Io.KnownBytes.Consumes, Io.KnownBytes.IsAtEnd, Io.StartsWith, List.onto_first}
-use Rattle.std.proofs.lemmas.List.{append-nil, length-append, length-take-le, take-append-drop, take_more, take-take}
-use Rattle.std.proofs.Math.Seq.{take-append_seam}
-use Rattle.tc_text.specs.declared.fault.TextFault.{TextFault}
-use Rattle.tc_text.specs.Prelude.{lines_of}
-use Rattle.tc_text.proofs.Lemmas.LinesOf.{no_line}
-use Rattle.tc_stream.specs.Prelude.{IsRead}
-use Rattle.tc_blocks.specs.{Inside.GoesOn, Inside.IsFirst, Inside.IsKnown, Inside.IsPending, Inside.IsReadBy, Inside.IsReadInto, Inside.IsWholeOf, Inside.Refuses, Inside.RefusesPart, Inside.TakesPart, Text.IsFault, Text.IsHeader, Text.IsTextOf, declared.block.Block.Block, declared.header.Header.Header, declared.line.Line.Line, declared.reading.Reading.Reading}
-use Rattle.tc_blocks.proofs.PartByPart.{as_first, fault_only, on_whole}
+use Rattle.std.{proofs.{Common.{ℕ, Bool, true, false, ◌≡◌, ◌≢◌, ◌==◌, ◌∙◌, ◌+◌, ◌-◌, ◌<◌, ◌≤◌, if◌then◌else◌, Option, None, Some, Result, Ok, Err, IfOk, IfErr, IfSome, List, [], ◌∷◌, ◌++◌, inr, length, take, drop, slice_index, ap, sym, subst, refl, append_assoc, arith}, lemmas.List.{append-nil, length-append, length-take-le, take-append-drop, take_more, take-take}, Math.Seq.take-append_seam}, specs.{Io.{KnownBytes.{Consumes, IsAtEnd}, StartsWith}, List.onto_first}}
+use Rattle.tc_text.{specs.{declared.fault.TextFault.TextFault, Prelude.lines_of}, proofs.Lemmas.LinesOf.no_line}
+use Rattle.tc_blocks.{specs.{Inside.{GoesOn, IsFirst, IsKnown, IsPending, IsConsumed, IsFitSoFar, IsReadBy, IsReadInto, IsWholeOf, Refuses, RefusesPart, TakesPart, most_of}, Limit.{IsPastLimit, IsInLimit, IsReadIn, blocks_fit}, Text.{IsFault, IsHeader, IsTextOf}, declared.{block.Block.Block, header.Header.Header, limit.{Extent.Extent, Limit.Limit, OpenBytes.OpenBytes}, line.Line.Line, reading.Reading.Reading}}, proofs.PartByPart.{as_first, fault_only, on_whole}}
 
 -- ---- whole lines
 
@@ -135,49 +128,76 @@ given_all None b xs p none = tt
 given_all (Some x) None xs p none = absurd p
 given_all (Some x) (Some y) xs p none = sym (p ∙ (ap (λ l. xs ++ l) none ∙ append-nil xs))
 
--- of at most `limit` bytes these are consumed
-pub record IsConsumed (before now : Option (List ℕ)) (limit left : ℕ) (bytes : List ℕ) : Type 0 where
-  pub consumed : Consumes before now bytes
-  pub counted : length bytes + left ≡ limit
+-- at the end of an input no more can come
+fits_at_end : (limit : Limit) (text : List ℕ) (left : ℕ) (o : OpenBytes) → length text + left ≡ most_of limit → IsFitSoFar limit text o → IsInLimit limit text
+fits_at_end (Limit.Whole most) text left o counted fits = omega (arith, counted)
+fits_at_end (Limit.Blocks most) text left o counted fits = (omega (arith, counted), ap (blocks_fit most) (sym (append-nil text)) ∙ fits.comes [])
 
-pub more_consumed : (before now after : Option (List ℕ)) (limit left n : ℕ) (bytes room : List ℕ) → IsConsumed before now limit left bytes → n ≤ length room → n ≤ left → Consumes now after (take n room) → IsConsumed before after limit (left - n) (bytes ++ take n room)
-more_consumed before now after limit left n bytes room so within fits takes = record {
-  consumed = consumes_two before now after bytes (take n room) so.consumed takes;
-  counted = let counted = so.counted in omega (arith, counted, fits, length-append bytes (take n room), length-take-le n room within);
+-- a text of which more bytes come than are left is longer than it may be
+longer : (limit : Limit) (text rest : List ℕ) (left : ℕ) → length text + left ≡ most_of limit → left < length rest → IsPastLimit limit (text ++ rest)
+longer (Limit.Whole most) text rest left counted more = omega (arith, counted, more, length-append text rest)
+longer (Limit.Blocks most) text rest left counted more = inr (omega (arith, counted, more, length-append text rest))
+
+-- ---- a read
+
+pub consumes_none : (input : Option (List ℕ)) → Consumes input input []
+consumes_none None = tt
+consumes_none (Some x) = refl
+
+pub end_consumed : (input now after : Option (List ℕ)) (text : List ℕ) (e : Extent) → IsConsumed input now text e → Consumes now after [] → IsConsumed input after text e
+end_consumed input now after text e so none = record {
+  consumed = subst (λ (x : List ℕ). Consumes input after x) (append-nil text) (consumes_two input now after text [] so.consumed none);
+  counted = so.counted;
+  fits = so.fits;
 }
 
-pub end_consumed : (before now after : Option (List ℕ)) (limit left : ℕ) (bytes : List ℕ) → IsConsumed before now limit left bytes → Consumes now after [] → IsConsumed before after limit left bytes
-end_consumed before now after limit left bytes so none =
-    record { consumed = subst (λ (x : List ℕ). Consumes before after x) (append-nil bytes) (consumes_two before now after bytes [] so.consumed none); counted = so.counted }
+pub part_consumed : (input now after : Option (List ℕ)) (text part : List ℕ) (e next : Extent) → IsConsumed input now text e → Consumes now after part → next.limit ≡ e.limit → next.left + length part ≡ e.left
+    → IsFitSoFar e.limit (text ++ part) next.open → IsConsumed input after (text ++ part) next
+part_consumed input now after text part e next so takes same less fits = record {
+  consumed = consumes_two input now after text part so.consumed takes;
+  counted = ap (λ n. n + next.left) (length-append text part) ∙ (omega (arith, less) ∙ (so.counted ∙ ap most_of (sym same)));
+  fits = subst (λ (l : Limit). IsFitSoFar l (text ++ part) next.open) (sym same) fits;
+}
 
-pub whole_input : {H : Type 0} (stands : List Block → H → Type 0) (before now : Option (List ℕ)) (limit left : ℕ) (bytes : List ℕ) (read : Result H TextFault) → IsConsumed before now limit left bytes → IsAtEnd now → IsReadInto stands bytes read → IsRead limit before (λ text. IsReadInto stands text read)
-whole_input stands before now limit left bytes read so end is = (bytes, let counted = so.counted in omega (arith, counted), given_all before now bytes so.consumed end, is)
+pub left_exceeded : (input now : Option (List ℕ)) (text : List ℕ) (e : Extent) → IsConsumed input now text e → IfSome now (λ rest. e.left < length rest) → IfSome input (IsPastLimit e.limit)
+left_exceeded None now text e so more = tt
+left_exceeded (Some x) None text e so more = absurd so.consumed
+left_exceeded (Some x) (Some y) text e so more = subst (IsPastLimit e.limit) (sym so.consumed) (longer e.limit text y e.left so.counted more)
+
+pub part_exceeds : (input now after : Option (List ℕ)) (text part : List ℕ) (e : Extent) → IsConsumed input now text e → Consumes now after part → ((rest : List ℕ) → IsPastLimit e.limit (text ++ (part ++ rest))) → IfSome input (IsPastLimit e.limit)
+part_exceeds None now after text part e so takes long = tt
+part_exceeds (Some x) None after text part e so takes long = absurd so.consumed
+part_exceeds (Some x) (Some y) None text part e so takes long = absurd takes
+part_exceeds (Some x) (Some y) (Some z) text part e so takes long = subst (IsPastLimit e.limit) (sym (so.consumed ∙ ap (λ l. text ++ l) takes)) (long z)
+
+-- ---- a whole input
+
+pub whole_input : {H : Type 0} (stands : List Block → H → Type 0) (input now : Option (List ℕ)) (limit : Limit) (e : Extent) (text : List ℕ) (read : Result H TextFault) → IsConsumed input now text e → e.limit ≡ limit → IsAtEnd now → IsReadInto stands text read
+    → IsReadIn limit input (λ text. IsReadInto stands text read)
+whole_input stands input now limit e text read so same end is =
+    (text, subst (λ (l : Limit). IsInLimit l text) same (fits_at_end e.limit text e.left e.open so.counted so.fits), given_all input now text so.consumed end, is)
 
 -- a fault in the bytes so far, whatever the rest of the input is
-pub refused_input : {H O : Type 0} (stands : List Block → H → Type 0) (opens : ℕ → Header → List Line → O → Type 0) (before now after : Option (List ℕ)) (limit left : ℕ) (reading : Reading H O) (unfinished part bytes rest : List ℕ) (fault : TextFault) → reading.only_histories ≡ false →
-    IsPending stands opens bytes reading unfinished → RefusesPart stands opens reading unfinished part fault → IsConsumed before now limit left (bytes ++ part) → length rest ≤ left → Consumes now after rest → IsAtEnd after → IsRead limit before (λ text. IsReadInto stands text (Err fault))
-refused_input stands opens before now after limit left reading unfinished part bytes rest fault any so bad consumed fits skipped end = (
-  (bytes ++ part) ++ rest,
-  let counted = consumed.counted in omega (arith, counted, fits, length-append (bytes ++ part) rest),
-  given_all before after ((bytes ++ part) ++ rest) (consumes_two before now after (bytes ++ part) rest consumed.consumed skipped) end,
-  text_refused stands reading.only_histories ((bytes ++ part) ++ rest) fault any (bad.refused bytes so rest),
-)
+pub refused_input : {H O : Type 0} (stands : List Block → H → Type 0) (opens : ℕ → Header → List Line → O → Type 0) (input after : Option (List ℕ)) (limit : Limit) (e : Extent) (reading : Reading H O) (unfinished part bytes rest : List ℕ) (fault : TextFault) → reading.only_histories ≡ false →
+    IsPending stands opens bytes reading unfinished → RefusesPart stands opens reading unfinished part fault → IsConsumed input after ((bytes ++ part) ++ rest) e → e.limit ≡ limit → IsAtEnd after → IsReadIn limit input (λ text. IsReadInto stands text (Err fault))
+refused_input stands opens input after limit e reading unfinished part bytes rest fault any so bad consumed same end =
+    whole_input stands input after limit e ((bytes ++ part) ++ rest) (Err fault) consumed same end (text_refused stands reading.only_histories ((bytes ++ part) ++ rest) fault any (bad.refused bytes so rest))
 
 -- what is pending of an input, of which these bytes are consumed
-pub record IsReadSoFar {H O : Type 0} (stands : List Block → H → Type 0) (opens : ℕ → Header → List Line → O → Type 0) (before now : Option (List ℕ)) (limit left : ℕ) (reading : Reading H O) (unfinished : List ℕ) : Type 0 where
+pub record IsReadSoFar {H O : Type 0} (stands : List Block → H → Type 0) (opens : ℕ → Header → List Line → O → Type 0) (input now : Option (List ℕ)) (e : Extent) (reading : Reading H O) (unfinished : List ℕ) : Type 0 where
   pub bytes : List ℕ
-  pub consumed : IsConsumed before now limit left bytes
+  pub consumed : IsConsumed input now bytes e
   pub pending : IsPending stands opens bytes reading unfinished
   pub room : reading.line + length unfinished ≤ length bytes + 1
   pub known : IsKnown reading.block
   pub any : reading.only_histories ≡ false
 
-pub more_so_far : {H O : Type 0} (stands : List Block → H → Type 0) (opens : ℕ → Header → List Line → O → Type 0) (before now after : Option (List ℕ)) (limit left n : ℕ) (reading next : Reading H O) (unfinished unfinished' room part : List ℕ) → IsReadSoFar stands opens before now limit left reading unfinished →
-    n ≤ length room → n ≤ left → Consumes now after (take n room) → part ≡ take n room → TakesPart stands opens reading unfinished part next unfinished' → next.line + length unfinished' ≤ reading.line + length unfinished + length part → IsKnown next.block → next.only_histories ≡ reading.only_histories →
-    IsReadSoFar stands opens before after limit (left - n) next unfinished'
-more_so_far stands opens before now after limit left n reading next unfinished unfinished' room part so within fits takes part_is one shorter known same = record {
+pub more_so_far : {H O : Type 0} (stands : List Block → H → Type 0) (opens : ℕ → Header → List Line → O → Type 0) (input now after : Option (List ℕ)) (e e' : Extent) (reading next : Reading H O) (unfinished unfinished' part : List ℕ) → (so : IsReadSoFar stands opens input now e reading unfinished)
+    → IsConsumed input after (so.bytes ++ part) e' → TakesPart stands opens reading unfinished part next unfinished' → next.line + length unfinished' ≤ reading.line + length unfinished + length part → IsKnown next.block → next.only_histories ≡ reading.only_histories →
+    IsReadSoFar stands opens input after e' next unfinished'
+more_so_far stands opens input now after e e' reading next unfinished unfinished' part so consumed one shorter known same = record {
   bytes = so.bytes ++ part;
-  consumed = subst (λ (x : List ℕ). IsConsumed before after limit (left - n) (so.bytes ++ x)) (sym part_is) (more_consumed before now after limit left n so.bytes room so.consumed within fits takes);
+  consumed = consumed;
   pending = one.takes so.bytes so.pending;
   room = let room_so = so.room in omega (arith, room_so, shorter, length-append so.bytes part);
   known = known;

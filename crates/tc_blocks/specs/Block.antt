@@ -1,8 +1,7 @@
 -- The text of a block: a history of format 1 or 2, or evidence.
-use Rattle.std.specs.Prelude.{ℕ, List, [], ◌∷◌, ◌++◌, codes}
-use Rattle.std.specs.{Fmt.decimal, List.flat_map}
+use Rattle.std.specs.{Prelude.{ℕ, List, [], ◌∷◌, ◌++◌, codes}, Fmt.decimal, List.flat_map}
 use Rattle.tc_rules.specs.Prelude.{Verdict}
-use Rattle.tc_blocks.specs.{HistoryBlock.end_text, Line.line_text, declared.header.Header.Header, declared.header.Kind.Kind, declared.line.Line.Line}
+use Rattle.tc_blocks.specs.{HistoryBlock.end_text, Line.line_text, declared.{header.{Header.Header, Kind.Kind}, line.Line.Line}}
 
 -- the words of a first line, which say the kind of the block
 abbrev pub kind_text : Kind → List ℕ

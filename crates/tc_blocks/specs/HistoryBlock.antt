@@ -1,24 +1,15 @@
 -- The text of a test case's history; it is this project's own.
-use Rattle.std.specs.Prelude.{ℕ, ◌==◌, if◌then◌else◌, List, [], ◌∷◌, ◌++◌, codes}
-use Rattle.std.specs.{Fmt.decimal, List.flat_map}
-use Rattle.tc_rules.specs.Prelude.{Verdict, name_of, Entry, Reply}
+use Rattle.std.specs.{Prelude.{ℕ, List, [], ◌∷◌, ◌++◌, codes, ◌==◌, if◌then◌else◌}, Fmt.decimal, List.flat_map}
+use Rattle.tc_rules.specs.Prelude.{Verdict, name_of, Entry}
 use Rattle.tc_text.specs.Prelude.{move_text, reply_text}
 
--- the words of a first line, which say its format: 1 or 2
-abbrev pub format_text : ℕ → List ℕ
-format_text f = if f == 1 then codes "history 1 " else codes "history 2 "
-
--- the first line, without its LF: the format, the name of the case, and how many behaviours it has
+-- the first line, without its LF: the words that say the format, 1 or 2, the name of the case, and how many behaviours it has
 abbrev pub history_header_text : ℕ → List ℕ → ℕ → List ℕ
-history_header_text f name n = format_text f ++ (name ++ (codes " " ++ decimal n))
-
--- what follows the move of an entry
-abbrev pub outcome_text : Reply → List ℕ
-outcome_text r = codes " -> " ++ reply_text r
+history_header_text f name n = (if f == 1 then codes "history 1 " else codes "history 2 ") ++ (name ++ (codes " " ++ decimal n))
 
 -- an entry, without its LF
 abbrev pub entry_text : Entry → List ℕ
-entry_text e = move_text e.caller.0 e.op ++ outcome_text e.reply
+entry_text e = move_text e.caller.0 e.op ++ (codes " -> " ++ reply_text e.reply)
 
 -- the last line, without its LF
 abbrev pub end_text : Verdict → List ℕ

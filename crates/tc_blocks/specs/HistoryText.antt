@@ -1,8 +1,7 @@
 -- The entries that a block of a history may have, and its format.
-use Rattle.std.specs.Prelude.{ℕ, ◌≡◌, ◌<◌, ◌≤◌, ◌^◌, ◌⊎◌, Some, List, [], ◌∷◌}
-use Rattle.tc_rules.specs.Prelude.{Run, Entry, Op, Reply}
-use Rattle.tc_text.specs.declared.short.ShortOp.{ShortOp}
-use Rattle.tc_text.specs.Prelude.{op_of, IsOp, IsReply}
+use Rattle.std.specs.Prelude.{ℕ, ◌≡◌, ◌<◌, ◌≤◌, ◌^◌, ◌⊎◌, Some}
+use Rattle.tc_rules.specs.Prelude.{Run, Entry, Reply, Op}
+use Rattle.tc_text.specs.{declared.short.ShortOp.ShortOp, Prelude.{op_of, IsOp, IsReply}}
 
 -- the operation gives no component a name
 abbrev pub IsUnnamed : Op → Type 0
@@ -19,11 +18,6 @@ pub record IsEntry (f : ℕ) (e : Entry) : Type 0 where
 -- the entry of this caller with a short operation and a reply
 abbrev pub short_entry : Run → ShortOp → Reply → Entry
 short_entry caller short reply = record { caller = caller; op = op_of short; reply = reply }
-
--- entries of a block of this format
-abbrev pub AreEntries : ℕ → List Entry → Type 0
-AreEntries f [] = Unit {0}
-AreEntries f (e ∷ es) = IsEntry f e × AreEntries f es
 
 -- a format that a block of that many behaviours may have: format 1 has at most 64 of them
 abbrev pub IsFormat : ℕ → ℕ → Type 0

@@ -1,10 +1,36 @@
 -- What only the writer and the reader of one block say.
-use Rattle.std.specs.Prelude.{ℕ, ◌≡◌, ◌≢◌, ◌+◌, ◌<◌, false, true, if◌then◌else◌, Bool, Option, None, Some, Result, MatchResult, List, [], ◌∷◌, ◌++◌, codes, length, map}
-use Rattle.std.specs.Borrow.{Bor}
-use Rattle.tc_rules.specs.Prelude.{Run, Verdict, Entry}
-use Rattle.tc_text.specs.Prelude.{is_plain, lines_of}
-use Rattle.tc_text.specs.declared.fault.{TextFault.TextFault, TextKind.TextKind}
-use Rattle.tc_blocks.specs.{Block.header_text, Histories.IsHistoryHeader, HistoryBlock.end_text, HistoryBlock.entry_text, HistoryText.IsEntry, Line.line_text, Met.AreMet, Sentence.IsSentence, Text.AreBlocks, Text.AreEvidence, Text.AreLines, Text.HoldsOfBlocks, Text.IsFault, Text.IsHeader, Text.IsLine, Text.IsTextOf, Text.all_lines, Text.open_lines, declared.block.Block.Block, declared.header.Header.Header, declared.header.Kind.Kind, declared.line.Line.Line, declared.met.MetRuns.MetRuns, declared.reading.OpenBlock.OpenBlock, declared.reading.Reading.Reading, declared.source.Pending.Pending}
+use Rattle.std.specs.{Prelude.{ℕ, ◌≡◌, ◌≢◌, ◌+◌, ◌-◌, ◌^◌, ◌<◌, false, true, nat_eq, if◌then◌else◌, Bool, Option, None, Some, Result, MatchResult, List, [], ◌∷◌, ◌++◌, codes, length, map, ◌==◌}, Borrow.Bor, Io.KnownBytes.Consumes, List.{AllByRecursion, starts_with}, Option.option_map_or}
+use Rattle.tc_rules.specs.Prelude.{Run, Verdict, Entry, Reply, Op, start}
+use Rattle.tc_text.specs.{Prelude.{is_plain, lines_of, reply_text}, declared.fault.{TextFault.TextFault, TextKind.TextKind}}
+use Rattle.tc_blocks.specs.{Block.{header_text, block_text}, Histories.IsHistoryHeader, HistoryBlock.{end_text, entry_text, history_text}, HistoryText.IsEntry, Limit.{blocks_fit, ends_block, may_come}, Line.line_text, Met.AreMet, Sentence.IsSentence, Text.{AreBlocks, AreEvidence, AreLines, HoldsOfBlocks, IsFault, IsHeader, IsLine, IsTextOf, all_lines}, declared.{block.Block.Block, header.{Header.Header, Kind.Kind}, limit.{Extent.Extent, Limit.Limit, OpenBytes.OpenBytes}, line.Line.Line, met.MetRuns.MetRuns, reading.{OpenBlock.OpenBlock, Reading.Reading}, source.Pending.Pending, history_block.History.History}}
+
+-- the text of a block
+abbrev pub text_of_block : Block → List ℕ
+text_of_block b = block_text b.header b.lines b.verdict
+
+-- the text of a history, in its own format
+abbrev pub text_of_history : History → List ℕ
+text_of_history h = history_text h.format h.name h.behaviours h.entries h.verdict
+
+-- entries of a block of this format
+abbrev pub AreEntries : ℕ → List Entry → Type 0
+AreEntries f es = AllByRecursion (IsEntry f) es
+
+-- what follows the move of an entry
+abbrev pub outcome_text : Reply → List ℕ
+outcome_text r = codes " -> " ++ reply_text r
+
+-- the words of a first line, which say its format: 1 or 2
+abbrev pub format_text : ℕ → List ℕ
+format_text f = if f == 1 then codes "history 1 " else codes "history 2 "
+
+-- a first line and lines inside, which no line ends yet
+abbrev pub open_lines : Header → List Line → List (List ℕ)
+open_lines h lines = header_text h ∷ map line_text lines
+
+-- the operation starts run k
+abbrev pub starts : ℕ → Op → Bool
+starts k op = option_map_or (λ s. s.0.0 == k) (start op) false
 
 -- what is between a run and its sentence
 abbrev pub mark_text : Bool → List ℕ
@@ -152,6 +178,10 @@ pub record IsOpened {O : Type 0} (opens : ℕ → Header → List Line → O →
   pub open_to : IsOpenTo opens block.kind block.behaviours at header inside block.met block.begun line
   pub lines_are : lines ≡ all_lines blocks ++ open_lines header inside
 
+-- the same with this block open
+abbrev pub opened : {H O : Type 0} → Reading H O → OpenBlock O → Reading H O
+opened {H} {O} r block = record r { block = Some block }
+
 -- the runs that lines of an open block are about are those of some lines
 abbrev pub IsKnown : {O : Type 0} → Option (OpenBlock O) → Type 0
 IsKnown {O} None = Unit {0}
@@ -233,3 +263,29 @@ RefusesIn {H} {O} stands opens before part fault = RefusesPart stands opens befo
 -- the number of the next line and the bytes that are kept: together they grow at most by the bytes that come
 abbrev pub reach : {H O : Type 0} → Pending H O → ℕ
 reach {H} {O} p = p.reading.line + length p.unfinished.items
+
+-- the bytes continue with what is due
+abbrev pub is_due : Option (Bor (List ℕ)) → List ℕ → Bool
+is_due due more = option_map_or (λ w. starts_with nat_eq more w.now) due false
+
+-- no block of this text has more bytes so far, and by what is known of the last one others may come after it
+pub record IsOpenAfter (most : ℕ) (text : List ℕ) (o : OpenBytes) : Type 0 where
+  pub line : List ℕ
+  pub due : (more : List ℕ) → ends_block (line ++ more) ≡ is_due o.due more
+  pub comes : (rest : List ℕ) → blocks_fit most (text ++ rest) ≡ may_come most o.bytes line rest
+
+-- the same, if blocks have a limit
+abbrev pub IsFitSoFar : Limit → List ℕ → OpenBytes → Type 0
+IsFitSoFar (Limit.Whole most) text o = Unit {0}
+IsFitSoFar (Limit.Blocks most) text o = IsOpenAfter most text o
+
+-- the most bytes of an input, all together
+abbrev pub most_of : Limit → ℕ
+most_of (Limit.Whole most) = most
+most_of (Limit.Blocks most) = 2 ^ 64 - 2
+
+-- of an input, which has a limit, these bytes are consumed
+pub record IsConsumed (input now : Option (List ℕ)) (text : List ℕ) (e : Extent) : Type 0 where
+  pub consumed : Consumes input now text
+  pub counted : length text + e.left ≡ most_of e.limit
+  pub fits : IsFitSoFar e.limit text e.open

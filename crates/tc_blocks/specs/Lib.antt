@@ -1,10 +1,10 @@
 -- The definitions that the contracts of this crate cite.
 pub mod Sentence
 pub mod Line
+pub mod Limit
 pub mod Met
 pub mod Block
 pub mod Text
-pub mod Written
 pub mod Laws
 pub mod Histories
 pub mod Inside

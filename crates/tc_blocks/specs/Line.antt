@@ -1,7 +1,6 @@
 -- The lines inside a block of evidence; their spelling is this project's own.
-use Rattle.std.specs.Prelude.{ℕ, ◌==◌, ◌||◌, Bool, if◌then◌else◌, false, true, List, [], ◌∷◌, ◌++◌, codes}
-use Rattle.std.specs.{Fmt.decimal, List.flat_map, List.list_any}
-use Rattle.tc_rules.specs.Prelude.{Entry, Op}
+use Rattle.std.specs.{Prelude.{ℕ, ◌==◌, ◌||◌, Bool, if◌then◌else◌, false, true, List, [], ◌∷◌, ◌++◌, codes}, Fmt.decimal, List.{flat_map, list_any}, Option.option_map_or}
+use Rattle.tc_rules.specs.Prelude.{Entry, start}
 use Rattle.tc_blocks.specs.{HistoryBlock.entry_text, declared.line.Line.Line}
 
 -- the name of the behaviour that a run has
@@ -19,15 +18,10 @@ line_text (Line.Entry e) = entry_text e
 line_text (Line.Remark run sentence) = said_text false run.0 sentence
 line_text (Line.Refused run sentence) = said_text true run.0 sentence
 
--- the operation starts run k
-abbrev pub starts : ℕ → Op → Bool
-starts k (Op.Start c run args) = run.0 == k
-starts k _ = false
-
 -- the line is one of run k, or an entry that starts it
 abbrev pub is_about : ℕ → Line → Bool
 is_about k (Line.Named run name) = run.0 == k
-is_about k (Line.Entry e) = (e.caller.0 == k) || starts k e.op
+is_about k (Line.Entry e) = (e.caller.0 == k) || option_map_or (λ s. s.0.0 == k) (start e.op) false
 is_about k (Line.Remark run sentence) = run.0 == k
 is_about k (Line.Refused run sentence) = run.0 == k
 

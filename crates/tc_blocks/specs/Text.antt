@@ -1,9 +1,8 @@
 -- Texts of histories and evidence, and what is wrong with other texts.
-use Rattle.std.specs.Prelude.{ℕ, ◌≡◌, ◌≢◌, ◌<◌, ◌+◌, false, List, [], ◌∷◌, ◌++◌, length, map}
+use Rattle.std.specs.{Prelude.{ℕ, ◌≡◌, ◌≢◌, ◌<◌, ◌+◌, false, List, [], ◌∷◌, ◌++◌, length, map}, List.flat_map}
 use Rattle.tc_rules.specs.Prelude.{IsBehaviours, IsName}
-use Rattle.tc_text.specs.declared.fault.{TextFault.TextFault, TextKind.TextKind}
-use Rattle.tc_text.specs.Prelude.{lines_of}
-use Rattle.tc_blocks.specs.{Block.header_text, HistoryBlock.end_text, HistoryText.IsEntry, HistoryText.IsFormat, Line.is_met, Line.line_text, Sentence.IsSentence, declared.block.Block.Block, declared.header.Header.Header, declared.header.Kind.Kind, declared.line.Line.Line}
+use Rattle.tc_text.specs.{declared.fault.{TextFault.TextFault, TextKind.TextKind}, Prelude.lines_of}
+use Rattle.tc_blocks.specs.{HistoryBlock.end_text, HistoryText.{IsEntry, IsFormat}, Line.{is_met, line_text}, Sentence.IsSentence, declared.{block.Block.Block, header.{Header.Header, Kind.Kind}, line.Line.Line}, Block.header_text}
 
 -- the format of a block's entries; those of evidence are spelled as in format 2
 abbrev pub format_of : Kind → ℕ
@@ -48,18 +47,13 @@ pub record IsBlock (may : Header → Type 0) (line : ℕ) (b : Block) : Type 0 w
   pub inside : AreLines b.header.kind b.header.behaviours [] b.lines
   pub first : b.first_line ≡ line
 
--- a first line and lines inside, which no line ends yet
-abbrev pub open_lines : Header → List Line → List (List ℕ)
-open_lines h lines = header_text h ∷ map line_text lines
-
 -- the lines of a block
 abbrev pub block_lines : Block → List (List ℕ)
-block_lines b = open_lines b.header b.lines ++ end_text b.verdict ∷ []
+block_lines b = (header_text b.header ∷ map line_text b.lines) ++ end_text b.verdict ∷ []
 
 -- the lines of blocks, one block after the other
 abbrev pub all_lines : List Block → List (List ℕ)
-all_lines [] = []
-all_lines (b ∷ bs) = block_lines b ++ all_lines bs
+all_lines blocks = flat_map block_lines blocks
 
 -- blocks with first lines that they may have, whose first one begins in the line of this number
 abbrev pub AreBlocks : (Header → Type 0) → ℕ → List Block → Type 0

@@ -4,7 +4,7 @@ ghost use Rattle.tc_text.specs.Prelude.{lines_of, Takes};
 ghost use Rattle.tc_text.specs.Inside.{TakesLine};
 ghost use Rattle.tc_blocks.specs.{Block.header_text, Block.kind_text, Inside.IsFirst, Text.IsHeader, Text.format_of};
 
-use crate::take_behaviours;
+use crate::history_header::take_behaviours;
 use tc_entry::Name;
 use tc_text::{after, take_name};
 

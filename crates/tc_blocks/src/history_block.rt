@@ -38,7 +38,7 @@ fn append_header(out: &mut Vec<u8>, name: &Name, behaviours: u16) -> Result<(), 
 }
 
 /// Appends the line of the entry; if memory runs out, a part of it.
-pub fn append_entry(out: &mut Vec<u8>, entry: &Entry) -> Result<(), NoMemory>
+pub(crate) fn append_entry(out: &mut Vec<u8>, entry: &Entry) -> Result<(), NoMemory>
     ensures ok { OnOk result (out.new.items ≡ out.old.items ++ entry_line entry.now) }
     ensures err { OnErr result (StartsWith out.new.items out.old.items) }
 {

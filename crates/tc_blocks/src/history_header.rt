@@ -23,7 +23,7 @@ fn is_format(format: u16, behaviours: u16) -> bool
 
 /// The number of behaviours after the name of a test case, if a block of this format may have that many, and what follows
 /// the line, which it ends.
-pub fn take_behaviours(format: u16, text: &[u8]) -> Option<(u16, &[u8])>
+pub(crate) fn take_behaviours(format: u16, text: &[u8]) -> Option<(u16, &[u8])>
     ensures spelled { IfSome result (λ r. (rest : List ℕ) × (text.now ≡ 32 ∷ (decimal r.0 ++ rest)) × EndsLine rest r.1.now) }
     ensures fits { IfSome result (λ r. IsBehaviours r.0 × IsFormat format r.0) }
     ensures less { IfSome result (λ r. length r.1.now < length text.now) }

@@ -3,7 +3,7 @@ ghost use Rattle.std.specs.Prelude.{◌≡◌, ◌<◌, ◌↔◌, ◌∷◌, �
 ghost use Rattle.tc_rules.specs.Prelude.{Verdict as AnyVerdict, Entry as AnyEntry, Reply as AnyReply};
 ghost use Rattle.tc_text.specs.Prelude.{lines_of, IsLong, IsReply};
 ghost use Rattle.tc_text.specs.Inside.{TakesLine};
-ghost use Rattle.tc_blocks.specs.{HistoryBlock.end_text, HistoryBlock.entry_text, HistoryBlock.outcome_text, HistoryText.IsEntry, HistoryText.IsUnnamed, HistoryText.short_entry};
+ghost use Rattle.tc_blocks.specs.{HistoryBlock.{end_text, entry_text}, Inside.outcome_text, HistoryText.{IsUnnamed, IsEntry, short_entry}};
 
 use tc_entry::{Entry, Op, Reply, Run, Verdict};
 use tc_text::{
@@ -12,7 +12,7 @@ use tc_text::{
 
 /// The overall verdict, if the first line is the last one of a block, and what follows that line.
 #[inline(always)]
-pub fn take_end_line(text: &[u8]) -> Option<(Verdict, &[u8])>
+pub(crate) fn take_end_line(text: &[u8]) -> Option<(Verdict, &[u8])>
     ensures spelled { IfSome result (λ r. lines_of text.now ≡ end_text r.0 ∷ lines_of r.1.now) }
     ensures less { IfSome result (λ r. length r.1.now < length text.now) }
     ensures only { (v : AnyVerdict) (others : List (List ℕ)) → lines_of text.now ≡ end_text v ∷ others → TakesLine result v others }
@@ -68,7 +68,7 @@ fn take_long_line(format: u16, text: &[u8]) -> Option<(Entry, &[u8])>
 /// The caller, the operation and the reply of the entry that the first line spells, if its operation is a short one, and
 /// what follows that line; None also if it is a long one. An entry of any format may have a short operation.
 #[inline(always)]
-pub fn take_short_line<T>(text: &[u8]) -> Option<((Run, ShortOp, Reply), &[u8])>
+pub(crate) fn take_short_line<T>(text: &[u8]) -> Option<((Run, ShortOp, Reply), &[u8])>
     ensures spelled { IfSome result (λ r. lines_of text.now ≡ entry_text (short_entry r.0.0 r.0.1 r.0.2) ∷ lines_of r.1.now) }
     ensures fits { (format : ℕ) → IfSome result (λ r. IsEntry format (short_entry r.0.0 r.0.1 r.0.2)) }
     ensures less { IfSome result (λ r. length r.1.now < length text.now) }
@@ -84,7 +84,7 @@ pub fn take_short_line<T>(text: &[u8]) -> Option<((Run, ShortOp, Reply), &[u8])>
 
 /// The entry of a block of this format that the first line spells, and what follows that line.
 #[inline(never)]
-pub fn take_entry_line(format: u16, text: &[u8]) -> Option<(Entry, &[u8])>
+pub(crate) fn take_entry_line(format: u16, text: &[u8]) -> Option<(Entry, &[u8])>
     ensures spelled { IfSome result (λ r. lines_of text.now ≡ entry_text r.0 ∷ lines_of r.1.now) }
     ensures fits { IfSome result (λ r. IsEntry format r.0) }
     ensures less { IfSome result (λ r. length r.1.now < length text.now) }

@@ -1,36 +1,53 @@
 //! Laws of blocks: each function changes nothing, and its contract is the law.
-ghost use Rattle.std.specs.Prelude.{IfSome};
-ghost use Rattle.tc_rules.specs.Prelude.{IsName};
+ghost use Rattle.std.specs.{Prelude.{◌≡◌, ◌≢◌, ◌++◌, ◌∷◌, ◌↔◌, ℕ, [], IfSome, List, map, true}, List.{AllByRecursion, flat_map, list_all}};
+ghost use Rattle.tc_rules.specs.Prelude.{IsBehaviours, IsName, Verdict};
 ghost use Rattle.tc_text.specs.Prelude.{AreComps, IsComp, IsGroup, IsOp, IsReply, IsTarget};
-ghost use Rattle.tc_blocks.specs.HistoryText.{AreEntries, IsEntry};
-ghost use Rattle.tc_blocks.specs.Written as written;
-ghost use Rattle.tc_blocks.specs.Histories as histories;
-ghost use Rattle.tc_blocks.specs.Laws as laws;
+ghost use Rattle.tc_blocks.specs.{Block.{block_text, header_text}, Histories.{AreHistories, IsHistoryHeader}, HistoryBlock.{end_text, history_text}, HistoryText.IsEntry, Laws.{IsSaid, LinesAreLegal, history_of, is_quiet_byte, is_text_byte, overall_of}, Line.{entries_of, entry_in, line_text}, Text.{AreBlocks, AreEvidence, IsHeader, IsLine}, declared.{block.Block.Block, header.{Header.Header, Kind.Kind}, history_block.History.History, line.Line.Line}};
 
 use tc_entry::{Comp, Entry, Group, Name, Op, Reply, Target};
 
 /// What is written of blocks is read as these blocks.
 #[tactic(auto, using(crate::proofs::Lemmas::WrittenEvidence::written_evidence))]
 pub fn written_is_read()
-    ensures { written.WrittenIsRead }
+    ensures { (blocks : List Block) → blocks ≢ [] → AreBlocks IsHeader 1 blocks
+        → AreEvidence (flat_map (λ b. block_text b.header b.lines b.verdict) blocks) blocks }
 {}
 
-/// Names of behaviours, remarks and refused lines say nothing to the component table.
-#[tactic(auto, using(crate::proofs::InnerLines::remarks_say_nothing))]
+/// Names of behaviours, remarks and refused lines say nothing to the component table: with them and without them, the
+/// lines are the same history, both legal or neither, with the same verdict.
+#[tactic(auto, using(crate::proofs::InnerLines::remark_rules))]
 pub fn remarks_say_nothing()
-    ensures { laws.RemarksSayNothing }
+    ensures history { (before after : List Line) (l : Line) → entry_in l ≡ []
+        → entries_of (before ++ l ∷ after) ≡ entries_of (before ++ after) }
+    ensures legal { (n : ℕ) (before after : List Line) (l : Line) → entry_in l ≡ []
+        → LinesAreLegal n (before ++ l ∷ after) ↔ LinesAreLegal n (before ++ after) }
+    ensures verdict { (before after : List Line) (l : Line) → entry_in l ≡ []
+        → overall_of (before ++ l ∷ after) ≡ overall_of (before ++ after) }
 {}
 
 /// A text of histories is evidence with the same histories, and what is written of histories is read as these.
-#[tactic(auto, using(crate::proofs::Lemmas::Histories::histories_are_read))]
+#[tactic(auto, using(crate::proofs::Lemmas::Histories::history_rules))]
 pub fn histories_are_read()
-    ensures { histories.HistoriesAreRead }
+    ensures evidence { (text : List ℕ) (histories : List History) → AreHistories text histories
+        → (blocks : List Block) × AreEvidence text blocks × (histories ≡ map history_of blocks) }
+    ensures written { (blocks : List Block) → blocks ≢ [] → AreBlocks IsHistoryHeader 1 blocks
+        → AreHistories (flat_map
+        (λ h. history_text h.format h.name h.behaviours h.entries h.verdict) (map history_of blocks))
+        (map history_of blocks) }
 {}
 
 /// A text of evidence has LF and bytes from 32 to 126, and only remarks and refused lines have a `<`.
-#[tactic(auto, using(crate::proofs::Lemmas::Bytes::bytes_of_evidence))]
+#[tactic(auto, using(crate::proofs::Lemmas::Bytes::byte_rules))]
 pub fn bytes_of_evidence()
-    ensures { laws.BytesOfEvidence }
+    // A text that is read has LF and bytes from 32 to 126.
+    ensures text_bytes { (text : List ℕ) (blocks : List Block) → AreEvidence text blocks
+        → list_all is_text_byte text ≡ true }
+    // Neither a first nor a last line has a `<`.
+    ensures first_bytes { (h : Header) → IsHeader h → list_all is_quiet_byte (header_text h) ≡ true }
+    ensures last_bytes { (v : Verdict) → list_all is_quiet_byte (end_text v) ≡ true }
+    // Nor has a line inside, except a remark and a refused line.
+    ensures line_bytes { (kind : Kind) (n : ℕ) (before : List Line) (l : Line) → IsBehaviours n
+        → IsLine kind n before l → (IsSaid l → ⊥) → list_all is_quiet_byte (line_text l) ≡ true }
 {}
 
 fn comp_fits(comp: &Comp)
@@ -109,7 +126,7 @@ fn entry_fits(entry: &Entry)
 
 /// The numbers of entries are those of their types, and so they are entries of format 2.
 pub fn entries_fit(entries: &[Entry])
-    ensures { AreEntries 2 entries.now }
+    ensures { AllByRecursion (IsEntry 2) entries.now }
 {
     let mut rest = entries;
     while let Some((entry, others)) = rest.split_first() {

@@ -1,7 +1,7 @@
 //! Blocks that are read part by part.
-ghost use Rattle.std.specs.Prelude.{◌≡◌, ◌≢◌, ◌<◌, ◌≤◌, ◌+◌, ℕ, List, [], None, length, IfOk, IfErr, OnOk};
+ghost use Rattle.std.specs.Prelude.{◌≡◌, ◌≢◌, ◌<◌, ◌≤◌, ◌+◌, ℕ, List, [], None, Some, length, IfOk, IfErr, OnOk};
 ghost use Rattle.tc_text.specs.Prelude.{lines_of};
-ghost use Rattle.tc_blocks.specs.{Inside.GoesOn, Inside.IsFirst, Inside.IsKnown, Inside.IsReadBy, Inside.IsWholeOf, Inside.Refuses, Text.IsFault};
+ghost use Rattle.tc_blocks.specs.{Inside.GoesOn, Inside.IsFirst, Inside.IsKnown, Inside.IsReadBy, Inside.IsWholeOf, Inside.Refuses, Inside.opened, Text.IsFault};
 
 use crate::header::take_first_line;
 use crate::met::MetRuns;
@@ -28,56 +28,23 @@ impl<H: TakesEvidence + Drop> Reading<H> {
     }
 }
 
-// Begins the block whose first line the text begins with; gives what follows.
-fn begin_block<'a, H: TakesEvidence + Drop>(
+// Takes the lines inside this block, which is open, up to its end or that of the text; gives what follows.
+fn take_inside<'a, H: TakesEvidence + Drop>(
     alloc: Global,
     reading: &mut Reading<H>,
+    block: OpenBlock<H::Begun>,
     text: &'a [u8],
 ) -> Result<&'a [u8], TextFault>
     requires closed { reading.old.block ≡ None }
-    requires some { text.now ≢ [] }
     requires room { reading.old.line + length text.now ≤ usize.MAX }
-    ensures read { IfOk result (λ rest. GoesOn H.stands H.opens reading.old text.now reading.new rest.now) }
+    requires known { IsKnown (Some block) }
+    ensures read { IfOk result (λ rest. GoesOn H.stands H.opens (opened reading.old block) text.now reading.new rest.now) }
     ensures room { IfOk result (λ rest. reading.new.line + length rest.now ≤ reading.old.line + length text.now) }
-    ensures less { IfOk result (λ rest. length rest.now < length text.now) }
+    ensures less { IfOk result (λ rest. text.now ≢ [] → length rest.now < length text.now) }
+    ensures no_more { IfOk result (λ rest. length rest.now ≤ length text.now) }
     ensures known { OnOk result (IsKnown reading.new.block) }
-    ensures fault { IfErr result (Refuses H.stands H.opens reading.old text.now) }
+    ensures fault { IfErr result (Refuses H.stands H.opens (opened reading.old block) text.now) }
 {
-    let Some((header, rest)) = take_first_line(reading.only_histories, text) else {
-        return Err(TextFault::at(reading.line, TextKind::FirstLine));
-    };
-    let kind = header.kind;
-    let behaviours = header.behaviours;
-    let begun = H::start(alloc, reading.line, header)?;
-    reading.block = Some(OpenBlock {
-        begun,
-        kind,
-        behaviours,
-        met: MetRuns::none(),
-    });
-    reading.line += 1;
-    Ok(rest)
-}
-
-// Begins the block that the text begins with, or continues with the open one, up to its end or that of the text; gives
-// what follows.
-fn take_some<'a, H: TakesEvidence + Drop>(
-    alloc: Global,
-    reading: &mut Reading<H>,
-    text: &'a [u8],
-) -> Result<&'a [u8], TextFault>
-    requires some { text.now ≢ [] }
-    requires room { reading.old.line + length text.now ≤ usize.MAX }
-    requires known { IsKnown reading.old.block }
-    ensures read { IfOk result (λ rest. GoesOn H.stands H.opens reading.old text.now reading.new rest.now) }
-    ensures room { IfOk result (λ rest. reading.new.line + length rest.now ≤ reading.old.line + length text.now) }
-    ensures less { IfOk result (λ rest. length rest.now < length text.now) }
-    ensures known { OnOk result (IsKnown reading.new.block) }
-    ensures fault { IfErr result (Refuses H.stands H.opens reading.old text.now) }
-{
-    let Some(block) = reading.block.take() else {
-        return begin_block(alloc, reading, text);
-    };
     let OpenBlock {
         mut begun,
         kind,
@@ -98,6 +65,64 @@ fn take_some<'a, H: TakesEvidence + Drop>(
     };
     reading.made.close(begun, line, verdict)?;
     reading.line = line + 1;
+    Ok(rest)
+}
+
+// Begins the block that the text begins with, and takes the lines inside it; gives what follows.
+fn begin_block<'a, H: TakesEvidence + Drop>(
+    alloc: Global,
+    reading: &mut Reading<H>,
+    text: &'a [u8],
+) -> Result<&'a [u8], TextFault>
+    requires closed { reading.old.block ≡ None }
+    requires some { text.now ≢ [] }
+    requires room { reading.old.line + length text.now ≤ usize.MAX }
+    ensures read { IfOk result (λ rest. GoesOn H.stands H.opens reading.old text.now reading.new rest.now) }
+    ensures room { IfOk result (λ rest. reading.new.line + length rest.now ≤ reading.old.line + length text.now) }
+    ensures less { IfOk result (λ rest. length rest.now < length text.now) }
+    ensures known { OnOk result (IsKnown reading.new.block) }
+    ensures fault { IfErr result (Refuses H.stands H.opens reading.old text.now) }
+{
+    let Some((header, rest)) = take_first_line(reading.only_histories, text) else {
+        return Err(TextFault::at(reading.line, TextKind::FirstLine));
+    };
+    let kind = header.kind;
+    let behaviours = header.behaviours;
+    let begun = H::start(alloc, reading.line, header)?;
+    let block = OpenBlock {
+        begun,
+        kind,
+        behaviours,
+        met: MetRuns::none(),
+    };
+    reading.line += 1;
+    let behind = take_inside(alloc, reading, block, rest)?;
+    Ok(behind)
+}
+
+// Begins the block that the text begins with, or continues with the open one, up to its end or that of the text; gives
+// what follows.
+fn take_some<'a, H: TakesEvidence + Drop>(
+    alloc: Global,
+    reading: &mut Reading<H>,
+    text: &'a [u8],
+) -> Result<&'a [u8], TextFault>
+    requires some { text.now ≢ [] }
+    requires room { reading.old.line + length text.now ≤ usize.MAX }
+    requires known { IsKnown reading.old.block }
+    ensures read { IfOk result (λ rest. GoesOn H.stands H.opens reading.old text.now reading.new rest.now) }
+    ensures room { IfOk result (λ rest. reading.new.line + length rest.now ≤ reading.old.line + length text.now) }
+    ensures less { IfOk result (λ rest. length rest.now < length text.now) }
+    ensures known { OnOk result (IsKnown reading.new.block) }
+    ensures fault { IfErr result (Refuses H.stands H.opens reading.old text.now) }
+{
+    if reading.block.is_none() {
+        return begin_block(alloc, reading, text);
+    }
+    let Some(block) = reading.block.take() else {
+        unreachable!();
+    };
+    let rest = take_inside(alloc, reading, block, text)?;
     Ok(rest)
 }
 

@@ -2,15 +2,16 @@
 ghost use Rattle.std.specs.Prelude.{◌≡◌, ◌<◌, ◌≤◌, ◌+◌, ℕ, List, length, IfOk, IfErr, OnOk, IfSome, MatchOption, MatchResult};
 ghost use Rattle.tc_blocks.specs.{Histories.AreHistories, Histories.IsHistoryHeader, Inside.AreTakenBy, Inside.IsFirst, Inside.IsFound, Inside.IsInsideFault, Inside.IsLineTakenBy, Inside.IsNoEntryLine, Inside.IsNoLine, Inside.IsOpenTo, Inside.IsWholeOf, Met.AreMet, Text.AreEvidence, Text.IsFault, Text.IsHeader, Text.IsLine, Text.format_of, declared.header.Header.Header};
 
+use crate::History;
 use crate::block::{Block, histories_of};
 use crate::header::Kind;
+use crate::history_line::{take_end_line, take_entry_line, take_short_line};
 use crate::line::Line;
 use crate::met::MetRuns;
 use crate::note::take_note;
 use crate::parts::{finish, take_part};
 use crate::reading::Reading;
 use crate::taking::TakesEvidence;
-use crate::{History, take_end_line, take_entry_line, take_short_line};
 use std::alloc::Global;
 use tc_entry::{NoMemory, Sequence, Verdict};
 use tc_text::{TextFault, TextKind};

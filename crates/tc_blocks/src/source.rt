@@ -1,16 +1,16 @@
 //! Blocks that are read from an input part by part.
-ghost use Rattle.std.specs.Prelude.{◌≡◌, ◌≢◌, ◌<◌, ◌≤◌, ◌+◌, ◌-◌, ◌++◌, ℕ, List, length, slice_index, false, IfOk, IfErr, IfSome, OnOk, IsErrOf, MatchResult};
-ghost use Rattle.std.specs.Io.KnownBytes.{Consumes, IsAtEnd};
-ghost use Rattle.tc_stream.specs.Prelude.{IsRead};
-ghost use Rattle.tc_blocks.specs.{Inside.IsKnown, Inside.IsPending, Inside.IsReadInto, Inside.RefusesIn, Inside.TakesIn, Inside.reach, Text.AreEvidence, Text.HoldsOfBlocks, Text.IsFault, Text.IsHeader, declared.block.Block.Block};
+ghost use Rattle.std.specs.Prelude.{◌≡◌, ◌≢◌, ◌<◌, ◌≤◌, ◌+◌, ◌-◌, ◌++◌, ℕ, List, Option, length, slice_index, false, IfOk, IfErr, IfSome, OnOk, IsErrOf, MatchResult};
+ghost use Rattle.std.specs.Io.KnownBytes.{IsAtEnd};
+ghost use Rattle.tc_blocks.specs.{Inside.IsConsumed, Inside.IsKnown, Inside.IsPending, Inside.IsReadInto, Inside.RefusesIn, Inside.TakesIn, Inside.most_of, Inside.reach, Limit.IsPastLimit, Limit.IsReadIn, Text.AreEvidence, Text.HoldsOfBlocks, Text.IsFault, Text.IsHeader, declared.block.Block.Block};
 
+use crate::limit::{Extent, Limit};
 use crate::parts::{finish, take_part};
 use crate::reading::Reading;
 use crate::taking::TakesEvidence;
 use std::alloc::Global;
 use std::io::Read;
 use tc_entry::NoMemory;
-use tc_stream::{InputFault, read_part};
+use tc_stream::InputFault;
 use tc_text::TextFault;
 
 // How many bytes are read at a time, at most.
@@ -90,47 +90,45 @@ fn finish_bytes<H: TakesEvidence + Drop>(alloc: Global, pending: Pending<H>) -> 
     }
 }
 
-// Reads on to the end of an input, which may have at most `limit` bytes more.
-fn skip<R: Read>(reader: &mut R, room: &mut [u8], limit: usize) -> Result<(), InputFault>
+// Reads on to the end of an input.
+fn skip<R: Read>(reader: &mut R, room: &mut [u8], extent: &mut Extent) -> Result<(), InputFault>
     requires { 0 < length room.old }
-    ensures rest { OnOk result ((rest : List ℕ) × (length rest ≤ limit)
-        × Consumes (R.remaining reader.old) (R.remaining reader.new) rest) }
+    ensures rest { OnOk result ((input : Option (List ℕ)) (text : List ℕ) → IsConsumed input (R.remaining reader.old) text extent.old
+        → (rest : List ℕ) × IsConsumed input (R.remaining reader.new) (text ++ rest) extent.new) }
     ensures end { OnOk result (IsAtEnd (R.remaining reader.new)) }
-    ensures long { IsErrOf result InputFault.TooLong → IfSome (R.remaining reader.old) (λ xs. limit < length xs) }
+    ensures limit { extent.new.limit ≡ extent.old.limit }
+    ensures long { IsErrOf result InputFault.TooLong → (input : Option (List ℕ)) (text : List ℕ)
+        → IsConsumed input (R.remaining reader.old) text extent.old → IfSome input (IsPastLimit extent.old.limit) }
 {
-    let mut left = limit;
-    while let Some(count) = read_part(reader, room, left)? {
-        left -= count;
-    }
+    while let Some(_count) = extent.read(reader, room)? {}
     Ok(())
 }
 
 /// What the blocks of the input make, histories and evidence in any order, otherwise its first fault; NoMemory may come
-/// instead. The input is read to its end, at most `limit` bytes, also after a fault.
+/// instead. The input is read to its end, up to its limit, also after a fault.
 ///
 /// Only one part of the input is in memory at a time, and a line that is not finished.
 pub fn read_evidence_from<R: Read, H: TakesEvidence + Drop>(
     alloc: Global,
     reader: &mut R,
-    limit: usize,
+    limit: Limit,
 ) -> Result<Result<H, TextFault>, InputFault>
-    requires { limit < usize.MAX }
-    ensures read { IfOk result (λ read. IsRead limit (R.remaining reader.old) (λ text. MatchResult read
+    requires { most_of limit < usize.MAX }
+    ensures read { IfOk result (λ read. IsReadIn limit (R.remaining reader.old) (λ text. MatchResult read
         (λ made. HoldsOfBlocks text (λ all. H.stands all made))
         (λ e. IsFault IsHeader text e × ((all : List Block) → AreEvidence text all → e ≡ TextFault.NoMemory)))) }
     ensures end { OnOk result (IsAtEnd (R.remaining reader.new)) }
-    ensures long { IsErrOf result InputFault.TooLong → IfSome (R.remaining reader.old) (λ xs. limit < length xs) }
+    ensures long { IsErrOf result InputFault.TooLong → IfSome (R.remaining reader.old) (IsPastLimit limit) }
 {
     let mut pending = Pending {
         reading: Reading::new(alloc, false),
         unfinished: Vec::new(alloc),
     };
     let mut room = [0; PART];
-    let mut left = limit;
-    while let Some(count) = read_part(reader, &mut room, left)? {
-        left -= count;
+    let mut extent = Extent::new(limit);
+    while let Some(count) = extent.read(reader, &mut room)? {
         if let Err(fault) = take_bytes(alloc, &mut pending, &room[..count]) {
-            skip(reader, &mut room, left)?;
+            skip(reader, &mut room, &mut extent)?;
             return Ok(Err(fault));
         }
     }

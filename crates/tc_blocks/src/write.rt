@@ -3,9 +3,10 @@ ghost use Rattle.std.specs.Prelude.{◌≡◌, ◌++◌, OnOk, OnErr};
 ghost use Rattle.std.specs.{Io.StartsWith, List.flat_map};
 ghost use Rattle.tc_blocks.specs.{Block.block_text, Block.header_text, Block.kind_text, Block.with_lf, Inside.mark_text, Line.line_text, Line.naming_text, Line.said_text};
 
+use crate::append_end;
 use crate::header::{Header, Kind};
+use crate::history_block::append_entry;
 use crate::line::Line;
-use crate::{append_end, append_entry};
 use tc_entry::{Name, NoMemory, Run, Verdict};
 use tc_text::{append_number, append_text};
 

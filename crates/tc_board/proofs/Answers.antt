@@ -1,15 +1,13 @@
 -- What one more answer does to the answers of a hand.
-use Rattle.std.proofs.{Common.{◌≡◌, ◌≢◌, ◌⊎◌, ℕ, Bool, true, false, if◌then◌else◌, nat_lt, List, [], ◌∷◌, ◌++◌, map, refl, sym, ap, ◌∙◌, subst, ⊎_elim, arith}, lemmas.List.{take-append-le, take_at, append-nil}}
+use Rattle.std.proofs.{Common.{◌≡◌, ◌≢◌, ◌⊎◌, ℕ, ◌<◌, Bool, true, false, if◌then◌else◌, nat_lt, Some, slice_get, List, [], ◌∷◌, ◌++◌, map, refl, sym, ap, ◌∙◌, subst, ⊎_elim, arith}, lemmas.List.{take-append-le, take_at, append-nil}}
 use Rattle.tc_entry.specs.Prelude.{UserVerdict, level_of, worse, worst, given}
 use Rattle.tc_verdict.proofs.Lemmas.Order.{worst-more}
-use Rattle.tc_board.{specs.{Answers.{FindsWorst, NeverShut, StaysShut, taken, worst_answer}, declared.answer.Answer.Answer, declared.answer.Answer.TheVariants.{Found, Met, Shut, Taken}}, proofs.Lookup.got_end}
+use Rattle.tc_board.{specs.{Answers.{FindsWorst, taken, worst_answer}, declared.answer.Answer.Answer, declared.answer.Answer.TheVariants.{Found, Met, Shut, Taken}}, proofs.Lookup.got_end}
 
 taken-end : (answers : List Answer) (x : Answer) → taken (answers ++ x ∷ []) ≡ taken answers ++ taken (x ∷ [])
 taken-end [] x = refl
-taken-end (Met ∷ answers) x = taken-end answers x
 taken-end (Taken v ∷ answers) x = ap (λ vs. v ∷ vs) (taken-end answers x)
-taken-end (Found v ∷ answers) x = taken-end answers x
-taken-end (Shut ∷ answers) x = taken-end answers x
+taken-end (_ ∷ answers) x = taken-end answers x
 
 map-end : (vs : List UserVerdict) (v : UserVerdict) → map given (vs ++ v ∷ []) ≡ map given vs ++ given v ∷ []
 map-end [] v = refl
@@ -46,6 +44,14 @@ finds-end u answers x finds last i v e = ⊎_elim
     (λ t. let less = t.0 in finds i v t.1 ∙ ap (worst_answer u) (sym (take-append-le i answers (x ∷ []) (omega arith))))
     (λ t. last v t.1 ∙ ap (worst_answer u) (sym (take_at answers (x ∷ []) i (sym t.0))))
     (got_end answers x (Found v) i e)
+
+-- no call found the word closed
+abbrev pub NeverShut : List Answer → Type 0
+NeverShut answers = (i : ℕ) → slice_get answers i ≢ Some Shut
+
+-- once a call found the word closed, no setting is taken and no verdict is found
+abbrev pub StaysShut : List Answer → Type 0
+StaysShut answers = (i j : ℕ) (answer : Answer) → slice_get answers i ≡ Some Shut → i < j → slice_get answers j ≡ Some answer → (answer ≡ Shut) ⊎ (answer ≡ Met)
 
 pub never-end : (answers : List Answer) (x : Answer) → NeverShut answers → x ≢ Shut → NeverShut (answers ++ x ∷ [])
 never-end answers x never other i e = ⊎_elim (λ t. never i t.1) (λ t. other t.1) (got_end answers x Shut i e)

@@ -70,9 +70,7 @@ opens slots id k records lists u here s h _ at _ = (
   where
     rank_alone : (u : UserVerdict) → level_of (given u) ≡ level_of (worst_answer u [])
     rank_alone UserVerdict.None = refl
-    rank_alone UserVerdict.Pass = refl
-    rank_alone UserVerdict.Inconc = refl
-    rank_alone UserVerdict.Fail = refl
+    rank_alone _ = refl
 
     open_empty : (answers : List Answer) → answers ≡ [] → Fits (Open u) answers (level_of (given u))
     open_empty answers none_yet = subst (λ l. Fits (Open u) l (level_of (given u))) (sym none_yet) (rank_alone u, ((λ i e. cc), (λ i v e. absurd (cc))))

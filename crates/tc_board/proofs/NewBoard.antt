@@ -4,7 +4,7 @@ use mathlib.Core.Option.{some, some-injective, some-ne-none}
 use lib.ListN.{get_elem?}
 use Rattle.atomic_table.{specs.{Table.{opening, Splits}, Seated.TableId}, proofs.Lists.{at_longer, at_set, set_here, at_last}}
 use Rattle.tc_verdict.specs.declared.user_verdict.UserVerdict.TheVariants.{None}
-use Rattle.tc_board.{specs.{Answers.{FindsWorst, NeverShut}, Board.{first_answers, first_record, first_records, new_hand, new_hands}, Hand.HandView, Inside.Seats.{answers_of, first_lists, hand_view, keeper_view, left_over, list, opening_view, split_off}, Inside.Steps.Seated, Inside.Table.{Holds, Knows, Row, Stands, record_of, row}, Rule.{AnswersAgree, Fits, word_of}, declared.answer.Answer.Answer, declared.answer.Answer.TheVariants.Met, declared.answer.AnswerList.AnswerList, declared.record.Record.Record, declared.rule.View.View}, proofs.{Lookup.{at_end, at_length}, Rows.{hand_knows, lists_stand, same_records, stands_on, stays_at, still_knows, words_stay}}}
+use Rattle.tc_board.{specs.{Answers.FindsWorst, Board.{first_answers, first_record, first_records, new_hand, new_hands}, Hand.HandView, Inside.Seats.{answers_of, first_lists, hand_view, keeper_view, left_over, list, opening_view, split_off}, Inside.Steps.Seated, Inside.Table.{Holds, Knows, Row, Stands, record_of, row}, Rule.{AnswersAgree, Fits, word_of}, declared.answer.Answer.Answer, declared.answer.Answer.TheVariants.Met, declared.answer.AnswerList.AnswerList, declared.record.Record.Record, declared.rule.View.View}, proofs.{Answers.NeverShut, Lookup.{at_end, at_length}, Rows.{hand_knows, lists_stand, same_records, stands_on, stays_at, still_knows, words_stay}}}
 
 first_rows : ℕ → ℕ → List Row
 first_rows k zero = []

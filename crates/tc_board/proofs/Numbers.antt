@@ -6,15 +6,11 @@ use Rattle.tc_board.specs.{Hand.answer_to_get, Inside.Steps.get_answer, Inside.S
 
 pub verdict_of-rank : (v : UserVerdict) → verdict_of (level_of (given v)) ≡ v
 verdict_of-rank None = refl
-verdict_of-rank Pass = refl
-verdict_of-rank Inconc = refl
-verdict_of-rank Fail = refl
+verdict_of-rank _ = refl
 
 pub rank_less : (v : UserVerdict) → level_of (given v) < 4
 rank_less None = omega arith
-rank_less Pass = omega arith
-rank_less Inconc = omega arith
-rank_less Fail = omega arith
+rank_less _ = omega arith
 
 larger : (m n : ℕ) → max m n ≡ (if nat_lt m n then n else m)
 larger m n = grind (arith, nat_tests)
@@ -29,9 +25,7 @@ max-closed v w = let a = rank_less w in omega arith
 
 pub or-closed : (v : UserVerdict) → bit_or (level_of (given v)) 8 ≡ 8 + level_of (given v)
 or-closed None = refl
-or-closed Pass = refl
-or-closed Inconc = refl
-or-closed Fail = refl
+or-closed _ = refl
 
 -- the answers by the number found, in an open word and in a closed one
 pub set_open : (v : UserVerdict) (n : ℕ) → n < 4 → set_answer v n ≡ Taken v
@@ -48,27 +42,19 @@ set_closed v n = ap (λ b. if b then Taken v else Shut) (is (nat_lt (8 + n) 8) r
 
 pub get_open : (v : UserVerdict) → get_answer (level_of (given v)) ≡ Found v
 get_open None = refl
-get_open Pass = refl
-get_open Inconc = refl
-get_open Fail = refl
+get_open _ = refl
 
 pub get_closed : (v : UserVerdict) → get_answer (8 + level_of (given v)) ≡ Shut
 get_closed None = refl
-get_closed Pass = refl
-get_closed Inconc = refl
-get_closed Fail = refl
+get_closed _ = refl
 
 pub begun_open : (v : UserVerdict) → (level_of (given v) == 16) ≡ false
 begun_open None = refl
-begun_open Pass = refl
-begun_open Inconc = refl
-begun_open Fail = refl
+begun_open _ = refl
 
 pub begun_closed : (v : UserVerdict) → (8 + level_of (given v) == 16) ≡ false
 begun_closed None = refl
-begun_closed Pass = refl
-begun_closed Inconc = refl
-begun_closed Fail = refl
+begun_closed _ = refl
 
 -- what is read of a number less than 4 is its verdict
 pub read_some : (n : ℕ) (r : Option UserVerdict) → n < 4 → ((v : UserVerdict) → level_of (given v) ≡ n → r ≡ Some v) → r ≡ Some (verdict_of n)

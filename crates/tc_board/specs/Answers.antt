@@ -1,7 +1,7 @@
 -- What the answers of a hand say, in the order in which it had them.
-use Rattle.std.specs.Prelude.{◌≡◌, ◌≢◌, ◌⊎◌, ℕ, ◌<◌, List, [], ◌∷◌, map, take, slice_get, Some}
+use Rattle.std.specs.Prelude.{◌≡◌, ℕ, List, [], ◌∷◌, map, take, slice_get, Some}
 use Rattle.tc_entry.specs.Prelude.{Verdict, UserVerdict, worst, given}
-use Rattle.tc_board.specs.declared.answer.Answer.{Answer, TheVariants.Found, TheVariants.Met, TheVariants.Shut, TheVariants.Taken}
+use Rattle.tc_board.specs.declared.answer.Answer.{Answer, TheVariants.{Found, Taken}}
 
 -- the settings that were taken
 abbrev pub taken : List Answer → List UserVerdict
@@ -16,11 +16,3 @@ worst_answer carried answers = worst (given carried ∷ map given (taken answers
 -- each verdict that was found is the worst of the carried one and of the settings taken before
 abbrev pub FindsWorst : UserVerdict → List Answer → Type 0
 FindsWorst carried answers = (i : ℕ) (v : UserVerdict) → slice_get answers i ≡ Some (Found v) → given v ≡ worst_answer carried (take i answers)
-
--- no call found the word closed
-abbrev pub NeverShut : List Answer → Type 0
-NeverShut answers = (i : ℕ) → slice_get answers i ≢ Some Shut
-
--- once a call found the word closed, no setting is taken and no verdict is found
-abbrev pub StaysShut : List Answer → Type 0
-StaysShut answers = (i j : ℕ) (answer : Answer) → slice_get answers i ≡ Some Shut → i < j → slice_get answers j ≡ Some answer → (answer ≡ Shut) ⊎ (answer ≡ Met)

@@ -1,10 +1,10 @@
 -- What contracts see of the keeper, and what its calls change.
-use Rattle.std.specs.Prelude.{◌≡◌, ℕ, Contains, Option, Some, slice_get, slice_set, List, [], ◌∷◌, ◌++◌}
+use Rattle.std.specs.Prelude.{◌≡◌, ℕ, Option, Some, slice_get, slice_set, List, [], ◌∷◌, ◌++◌}
 use Rattle.std.specs.Prelude as prelude
 use Rattle.atomic_table.specs.Seated.{TableId}
-use Rattle.tc_entry.specs.Prelude.{UserVerdict, given}
+use Rattle.tc_entry.specs.Prelude.{UserVerdict}
 use Rattle.tc_verdict.specs.declared.user_verdict.UserVerdict.TheVariants.{None}
-use Rattle.tc_board.specs.{Answers.worst_answer, Hand.HandView, declared.answer.AnswerList.AnswerList, declared.record.Record.Record, declared.record.Record.TheVariants.Closed, declared.record.Record.TheVariants.Open, declared.record.Record.TheVariants.Unbegun}
+use Rattle.tc_board.specs.{Hand.HandView, declared.{answer.AnswerList.AnswerList, record.Record.{Record, TheVariants.{Closed, Open, Unbegun}}}}
 
 -- its board, what it did with each word, and the answers of the hands that it took back
 pub record KeeperView : Type 0 where
@@ -27,20 +27,10 @@ carried_in prelude.None = None
 abbrev pub carried_by : List Record → ℕ → UserVerdict
 carried_by records run = carried_in (slice_get records run)
 
--- what the close of a run's word gives: the worst of the verdict that it was begun with and of the settings taken, by
--- each list of answers of the run that was taken back
-abbrev pub CountsTaken : KeeperView → ℕ → UserVerdict → Type 0
-CountsTaken k run counted =
-    (list : AnswerList) → Contains k.gathered list → list.run ≡ run → given counted ≡ worst_answer (carried_by k.records run) list.answers
-
 -- the keeper with another record of one word
 abbrev pub recorded : KeeperView → ℕ → Record → KeeperView
 recorded k run r = record k { records = slice_set k.records run r }
 
--- the answers of a hand, with its run
-abbrev pub list_of : HandView → AnswerList
-list_of h = record { run = h.run; answers = h.answers }
-
 -- the keeper with the answers of one more hand
 abbrev pub gathered : KeeperView → HandView → KeeperView
-gathered k h = record k { gathered = k.gathered ++ list_of h ∷ [] }
+gathered k h = record k { gathered = k.gathered ++ record { run = h.run; answers = h.answers } ∷ [] }

@@ -1,5 +1,6 @@
 //! The keeper, which opens and closes the words.
-ghost use Rattle.std.specs.Prelude.{◌≡◌, slice_get};
+ghost use Rattle.std.specs.Prelude.{◌≡◌, Contains, slice_get};
+ghost use Rattle.tc_entry.specs.Prelude.{given};
 ghost use Rattle.tc_board.specs.declared.record.Record.{Record, TheVariants.Closed as IsClosed, TheVariants.Open as IsBegun, TheVariants.Unbegun};
 
 use crate::board::Board;
@@ -28,7 +29,7 @@ impl Model for Keeper {
 }
 
 impl Keeper {
-    ghost use Rattle.tc_board.specs.{Rule.AnswersAgree, Keeper.{CountsTaken, IsOpen, carried_by, recorded, gathered}};
+    ghost use Rattle.tc_board.specs.{Answers.worst_answer, declared.answer.AnswerList.AnswerList, Rule.AnswersAgree, Keeper.{IsOpen, carried_by, recorded, gathered}};
 
     /// Opens the word of a run, with the verdict that its component carries.
     pub fn begin(&mut self, board: &Board, run: Run, carried: UserVerdict)
@@ -49,7 +50,9 @@ impl Keeper {
         requires board { self.old.board ≡ board.now }
         requires open { IsOpen self.old.records run.0 }
         ensures closes { self.new ≡ recorded self.old run.0 (IsClosed (carried_by self.old.records run.0) result) }
-        ensures counts { CountsTaken self.old run.0 result }
+        // By each list of answers of the run that was taken back.
+        ensures counts { (list : AnswerList) → Contains self.old.gathered list → list.run ≡ run.0
+            → given result ≡ worst_answer (carried_by self.old.records run.0) list.answers }
     {
         let word = run.0 as usize;
         let found = board

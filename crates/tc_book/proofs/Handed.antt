@@ -39,15 +39,11 @@ hand_same hand run log after same h = rw same h
 
 pub found_given : (v : UserVerdict) → found_by (given v) ≡ Found v ∷ []
 found_given UserVerdict.None = refl
-found_given UserVerdict.Pass = refl
-found_given UserVerdict.Inconc = refl
-found_given UserVerdict.Fail = refl
+found_given _ = refl
 
 pub found_suits : (v : UserVerdict) → suits Op.GetVerdict (Reply.Local (given v)) ≡ true
 found_suits UserVerdict.None = refl
-found_suits UserVerdict.Pass = refl
-found_suits UserVerdict.Inconc = refl
-found_suits UserVerdict.Fail = refl
+found_suits _ = refl
 
 pub met_then : (hand : HandView) (run : ℕ) (log : List Entry) → IsHandOf hand run log → hand.answers ≢ []
 met_then hand run log h e = let q : Met ∷ answers_in log ≡ [] = sym h.answers ∙ e in absurd cc

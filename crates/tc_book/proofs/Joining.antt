@@ -1,7 +1,7 @@
 -- A merged history is the merge of itself without its verdict entries with its runs' parts of it.
 use Rattle.std.{proofs.{Common.{ℕ, ◌≡◌, ◌<◌, ◌≤◌, true, false, None, Option, List, [], ◌∷◌, reverse, map, filter, length, get_or, sym, ap, ◌∙◌, subst, refl, inl, inr}, lemmas.Bool.cases_lt, lemmas.List.{get_or_past, reverse-reverse}}, specs.{Borrow.Bor, List.All}}
 use Rattle.tc_rules.specs.{Prelude.{Comp, Entry, comp_of, is_other, is_over, is_verdict_call, merge, log_of, logs_below}, declared.run_log.RunLog.RunLog}
-use Rattle.tc_book.{specs.{Inside.Merging.Has, Closing.{merged, run_log}, Inside.{AreLogs, AreLogsOf, CameBack, IsJoined, IsSound, IsWalk}, OpenCase.AreOthers, Passes.LeftState}, proofs.{InPlace.others-merge, Reporting.{log_below, no_others}, Skipping.filter-reverse, Wholeness.{log_beyond, merged_starts}}}
+use Rattle.tc_book.{specs.{Inside.{Merging.Has, run_log, AreLogs, AreLogsOf, CameBack, IsJoined, IsSound, IsWalk}, Closing.merged, OpenCase.AreOthers, Passes.LeftState}, proofs.{InPlace.others-merge, Reporting.{log_below, no_others}, Skipping.filter-reverse, Wholeness.{log_beyond, merged_starts}}}
 
 -- the table of these lists has the logs
 pub has_logs : (parts : List (List Entry)) (table : List (Bor (List Entry))) (logs : List RunLog) → length table ≡ length parts →

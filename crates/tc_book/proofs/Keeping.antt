@@ -3,7 +3,7 @@ use Rattle.std.proofs.{Common.{◌≡◌, ℕ, ◌+◌, ◌*◌, ◌<◌, ◌≤
 use Rattle.tc_rules.specs.Prelude.{Run, Entry, Op, Reply, Fault, is_ended, is_fault, is_ok, holds, is_stuck, fault, answer, answer_unless, plain_answer, is_active, is_verdict_call, UserVerdict, Comp, Case, past_of}
 use Rattle.tc_entry.specs.declared.limits.TheConstants.{BEHAVIOURS}
 use Rattle.tc_board.specs.declared.record.Record.{Record}
-use Rattle.tc_book.{specs.{Inside.{IsKept, one_if, size_of, start_at, total, no_place}, OpenCase.{opening_place, places_at}, Inside.Replies.suits, Words.WordsAgree, Inside.Words.{carried_to, carried_to_newest}, declared.places.Places.Places}, proofs.Lemmas.Starting.starts_below}
+use Rattle.tc_book.{specs.{Inside.{IsKept, one_if, size_of, start_at, total, no_place, opening_place, Replies.suits, Words.{carried_to, carried_to_newest}}, OpenCase.places_at, Words.WordsAgree, declared.places.Places.Places}, proofs.Lemmas.Starting.starts_below}
 
 pub one_at_most : (b : Bool) → one_if b ≤ 1
 one_at_most true = omega arith
@@ -37,17 +37,8 @@ plain_suits : (past : List Entry) (b : ℕ) (op : Op) → is_verdict_call op ≡
 plain_suits past b (Op.Wait k t) other = wait_suits k t (holds past (record { killed = k; target = t }))
 plain_suits past b (Op.Wake k t) other = wake_suits k t (holds past (record { killed = k; target = t })) ((b == 0) && is_stuck past)
 plain_suits past b Op.GetVerdict other = absurd cc
-plain_suits past b (Op.Create alive name) other = refl
-plain_suits past b (Op.Start c run args) other = refl
-plain_suits past b (Op.Stop g) other = refl
-plain_suits past b (Op.Kill g) other = refl
-plain_suits past b Op.StopCase other = refl
-plain_suits past b (Op.Running t) other = refl
-plain_suits past b (Op.Alive t) other = refl
-plain_suits past b (Op.Done t) other = refl
-plain_suits past b (Op.Killed t) other = refl
 plain_suits past b (Op.SetVerdict v) other = absurd cc
-plain_suits past b Op.Finish other = refl
+plain_suits past b _ other = refl
 
 by_case : (active : Bool) (f : Option Fault) (op : Op) (plain : Reply) → is_verdict_call op ≡ false → suits op plain ≡ true → suits op (if active then answer_unless f plain else Reply.Ended) ≡ true
 by_case true None op plain other h = h
@@ -62,11 +53,7 @@ finish_replies : (r : Reply) → suits Op.Finish r ≡ true → (is_ok r || is_e
 finish_replies Reply.Ok h = refl
 finish_replies Reply.Ended h = refl
 finish_replies (Reply.Fault f) h = refl
-finish_replies (Reply.Made c) h = absurd cc
-finish_replies (Reply.Answer a) h = absurd cc
-finish_replies (Reply.Local v) h = absurd cc
-finish_replies Reply.Matched h = absurd cc
-finish_replies Reply.Parked h = absurd cc
+finish_replies _ h = absurd cc
 
 -- which replies a Finish can get
 pub answer_finishes : (n : ℕ) (past : List Entry) (b : ℕ) → (is_ok (answer n past b Op.Finish) || is_ended (answer n past b Op.Finish) || is_fault (answer n past b Op.Finish)) ≡ true

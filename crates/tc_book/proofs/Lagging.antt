@@ -2,7 +2,7 @@
 use Rattle.std.proofs.{Common.{ℕ, ◌≡◌, ◌≢◌, ◌<◌, ◌==◌, ◌&&◌, not, if◌then◌else◌, Bool, true, false, Option, Some, None, is_some, List, ◌∷◌, length, set, length-set, refl, ap, sym, ◌∙◌, subst, arith, inl, inr}, lemmas.Bool.Decides.nat_tests, lemmas.Bool.{cases_eq, ne_eqb}}
 use Rattle.tc_rules.{specs.Prelude.{Run, UserVerdict, Comp, Entry, Op, Reply, is_ok, comp_of, first_some, halts, started_on, last_run, phase, start_in, is_running, answer, is_active, IsLegal}, proofs.{Lemmas.Going.{halted_by_entry, last_on_it, last_stands, started_by_entry, starts_still}, Lemmas.Sound.{no_special, plain_if, start_in_range, starts_fresh}}}
 use Rattle.tc_board.specs.declared.record.Record.{Record, TheVariants.Closed, TheVariants.Open, TheVariants.Unbegun}
-use Rattle.tc_book.{specs.{Inside.Words.{CanBegin, Lags, WordsLag, with_start, carried_to, last_on}, Words.{IsWordOf, WordsAgree, carried, closing, is_closed, left_by, record_at, run_before}}, proofs.Settling.{at_same, at_other}}
+use Rattle.tc_book.{specs.{Inside.Words.{CanBegin, Lags, WordsLag, with_start, carried_to, last_on, left_by}, Words.{IsWordOf, WordsAgree, carried, closing, is_closed, record_at, run_before}}, proofs.Settling.{at_same, at_other}}
 
 first_true : (a b : Bool) → (a && b) ≡ true → a ≡ true
 first_true true b h = refl

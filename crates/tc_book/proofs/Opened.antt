@@ -43,9 +43,8 @@ pub get_at : (words : List Record) (b : ℕ) (r : Record) → b < length words �
 get_at words b r within is = slice_get-get_or words b Unbegun within ∙ ap Some is
 
 open_by : (r : Record) → is_open r ≡ true → r ≡ Open (opening r)
-open_by Unbegun h = absurd cc
 open_by (Open u) h = refl
-open_by (Closed u v) h = absurd cc
+open_by _ h = absurd cc
 
 pub open_at : (words : List Record) (b : ℕ) → b < length words → is_open (record_at words b) ≡ true → IsOpen words b
 open_at words b within h = (opening (record_at words b), get_at words b (Open (opening (record_at words b))) within (open_by (record_at words b) h))

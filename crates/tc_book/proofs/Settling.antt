@@ -2,7 +2,7 @@
 use Rattle.std.proofs.{Common.{ℕ, ◌≡◌, ◌≢◌, ◌+◌, ◌<◌, Bool, true, false, Option, Some, None, List, length, length-set, get_or-set_other, get_or-set_same, set, below_more, refl, ap, sym, ◌∙◌, subst, arith, inl, inr}, lemmas.Bool.cases_eq}
 use Rattle.tc_rules.specs.Prelude.{Run, UserVerdict, Comp, Entry, comp_of, is_active}
 use Rattle.tc_board.specs.declared.record.Record.{Record, TheVariants.Closed, TheVariants.Open, TheVariants.Unbegun}
-use Rattle.tc_book.specs.{Inside.Words.Lags, Inside.Words.WordsLag, Inside.Words.is_open, Inside.Words.opening, Words.IsWordOf, Words.StayClosed, Words.WordsAgree, Words.carried, Words.closing, Words.is_closed, Words.left_by, Words.record_at, Words.run_before}
+use Rattle.tc_book.specs.{Inside.Words.{Lags, WordsLag, is_open, opening, left_by}, Words.{IsWordOf, StayClosed, WordsAgree, carried, closing, is_closed, record_at, run_before}}
 
 -- an open word is of a run that was started and is active
 pub open_means : (o : Option Comp) (active : Bool) (u : UserVerdict) (r : Record) → IsWordOf o active u r → is_open r ≡ true →
@@ -12,9 +12,8 @@ open_means (Some c) true u r is h = (c, refl, refl, is)
 open_means (Some c) false u r is h = let e : false ≡ true = sym (ap is_open is.1) ∙ h in absurd cc
 
 not_closed_if_open : (r : Record) → is_open r ≡ true → is_closed r ≡ true → is_closed Unbegun ≡ true
-not_closed_if_open Unbegun a b = a
 not_closed_if_open (Open u) a b = b
-not_closed_if_open (Closed u v) a b = a
+not_closed_if_open _ a b = a
 
 pub at_other : (words : List Record) (i b : ℕ) (r : Record) → b ≢ i → record_at (set words i r) b ≡ record_at words b
 at_other words i b r other = get_or-set_other words i b r Unbegun other
@@ -86,6 +85,5 @@ stay_closed words i r unclosed b h =
     at_other words i b r other
 
 pub open_unclosed : (r : Record) → is_open r ≡ true → is_closed r ≡ false
-open_unclosed Unbegun h = refl
-open_unclosed (Open u) h = refl
 open_unclosed (Closed u v) h = absurd cc
+open_unclosed _ h = refl

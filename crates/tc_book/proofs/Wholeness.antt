@@ -1,7 +1,7 @@
 -- What came back is whole by the merged history, if it is one of each run and its logs are the parts of that history.
 use Rattle.std.{proofs.{Common.{ℕ, zero, suc, ◌≡◌, ◌+◌, ◌<◌, ◌≤◌, ◌==◌, cond, if◌then◌else◌, Bool, true, false, Option, None, List, [], ◌∷◌, length, reverse, map, sum_by, count_by, get_or, refl, sym, ap, ◌∙◌, subst, arith, eq-eqb, inl, inr}, lemmas.Bool.Decides.nat_tests, lemmas.Bool.{cases_lt, ne_eqb}, lemmas.List.Sums.sum_by-cons}, specs.List.All}
 use Rattle.tc_rules.specs.{Prelude.{Comp, Entry, IsLegal, comp_of, log_of, logged, part}, declared.run_log.RunLog.RunLog}
-use Rattle.tc_book.{proofs.{Length.{is_log_of, HaveDistinctRuns, long_by_parts}, InPlace.others-merge, Lemmas.PartOf.comp_known, Reporting.no_others, Skipping.starts_same}, specs.{Closing.{IsFitting, IsMerged, IsOneEach, IsWhole, is_left_of, merged, run_log}, Inside.{AreLogs, ArePlaced, IsJoined, IsSound, KnowsStarts}, OpenCase.OpenCase, Passes.LeftState}}
+use Rattle.tc_book.{proofs.{Length.{is_log_of, HaveDistinctRuns, long_by_parts}, InPlace.others-merge, Lemmas.PartOf.comp_known, Reporting.no_others, Skipping.starts_same}, specs.{Closing.{IsFitting, IsMerged, IsOneEach, IsWhole, merged}, Inside.{run_log, is_left_of, AreLogs, ArePlaced, IsJoined, IsSound, KnowsStarts}, OpenCase.OpenCase, Passes.LeftState}}
 
 logged_map : (lefts : List LeftState) → logged (map run_log lefts) ≡ sum_by (λ l. length l.log) lefts
 logged_map [] = refl

@@ -1,23 +1,14 @@
 -- When a case may be closed: what came back is whole, and the close of each word counted the log of its run.
-use Rattle.std.specs.Prelude.{◌≡◌, List, [], map, ℕ, ◌<◌, ◌==◌, Bool, true, None, length, reverse, All, count_by, sum_by}
-use Rattle.tc_rules.specs.{Prelude.{given, Entry, comp_of, is_over, IsLegal, merge, part}, declared.run_log.RunLog.RunLog}
-use Rattle.tc_board.specs.{Prelude.worst_answer, declared.record.Record.Record, declared.record.Record.TheVariants.{Closed, Unbegun}}
-use Rattle.tc_book.specs.{Hands.answers_in, OneCase.all_started, OpenCase.OpenCase, OpenCase.start_of, Passes.LeftState, Words.record_at}
-
--- the word was closed, and its close counted the carried verdict and exactly the settings of this log that were taken
-abbrev pub Counts : Record → List Entry → Type 0
-Counts (Closed carried counted) log = given counted ≡ worst_answer carried (answers_in log)
-Counts _ log = ⊥
-
--- this was left of run b
-abbrev pub is_left_of : ℕ → LeftState → Bool
-is_left_of b l = l.run.0 == b
+use Rattle.std.specs.Prelude.{◌≡◌, List, [], map, ℕ, ◌<◌, true, None, length, reverse, All, count_by, sum_by, ◌==◌}
+use Rattle.tc_rules.specs.Prelude.{Entry, comp_of, is_over, IsLegal, merge, part, given}
+use Rattle.tc_board.specs.{declared.record.Record.{Record, TheVariants.{Unbegun, Closed}}, Prelude.worst_answer}
+use Rattle.tc_book.specs.{OneCase.all_started, OpenCase.{OpenCase, start_of}, Passes.LeftState, Words.record_at, Hands.answers_in}
 
 -- there is one of each of the n runs, and no other
 pub record IsOneEach (n : ℕ) (lefts : List LeftState) : Type 0 where
   pub count : length lefts ≡ n
   pub within : All (λ l. l.run.0 < n) lefts
-  pub each : (b : ℕ) → b < n → count_by (is_left_of b) lefts ≡ 1
+  pub each : (b : ℕ) → b < n → count_by (λ l. l.run.0 == b) lefts ≡ 1
 
 -- what a run left fits the history
 pub record IsFitting (history : List Entry) (l : LeftState) : Type 0 where
@@ -38,19 +29,16 @@ pub record IsWhole (n : ℕ) (history : List Entry) (lefts : List LeftState) : T
   -- the history is as long as the logs together
   pub as_long : length history ≡ sum_by (λ l. length l.log) lefts
 
--- the log of a run that left; the merge asks only for its run and its entries
-abbrev pub run_log : LeftState → RunLog
-run_log l = record { run = l.run; comp = record { 0 = 0 }; entries = l.log }
-
--- the history of a case with the verdict entries of what its runs left
+-- the history of a case with the verdict entries of what its runs left; the merge asks only for each run and its entries
 abbrev pub merged : List Entry → List LeftState → List Entry
-merged history lefts = merge history (map run_log lefts)
+merged history lefts = merge history (map (λ l. record { run = l.run; comp = record { 0 = 0 }; entries = l.log }) lefts)
 
 -- The word of a run agrees with the run's log. If it was begun, it was closed, and its close counted what it was begun
 -- with and exactly the settings of the log that were replied Ok.
 abbrev pub Agrees : Record → List Entry → Type 0
 Agrees Unbegun log = Unit {0}
-Agrees word log = Counts word log
+Agrees (Closed carried counted) log = given counted ≡ worst_answer carried (answers_in log)
+Agrees _ log = ⊥
 
 -- the word of the run that left this agrees with its log
 pub record IsAgreed (words : List Record) (l : LeftState) : Type 0 where

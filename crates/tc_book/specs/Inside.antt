@@ -3,11 +3,36 @@ pub mod Merging
 pub mod Replies
 pub mod Waiting
 pub mod Words
-use Rattle.std.specs.{Prelude.{ℕ, zero, suc, ◌++◌, ◌∷◌, ◌≡◌, ◌+◌, ◌≤◌, ◌<◌, ◌==◌, ◌↔◌, Bool, if◌then◌else◌, option_map, Option, Some, None, List, [], length, map, filter, reverse, sum_by, slice_index_or, All, true, false, ◌||◌, not, is_some}, Borrow.Bor, Option.{option_and_then, option_map_or}}
+use Rattle.std.specs.{Prelude.{ℕ, zero, suc, ◌++◌, ◌∷◌, ◌≡◌, ◌+◌, ◌≤◌, ◌<◌, ◌==◌, ◌↔◌, Bool, if◌then◌else◌, option_map, Option, Some, None, List, [], length, map, filter, reverse, sum_by, slice_index_or, All, true, false, ◌||◌, not, is_some}, Borrow.Bor, Option.{option_and_then, option_map_or}, List.list_any}
 use Rattle.tc_entry.specs.declared.limits.TheConstants.{BEHAVIOURS}
-use Rattle.tc_rules.specs.{declared.awaited.Awaited.Awaited, declared.closed.CloseFault.CloseFault, declared.run_log.RunLog.RunLog, Prelude.{Comp, Entry, Op, Reply, IsLegal, answer, comp_of, ends_case, started_on, waiting, part, is_by, is_other, is_verdict_call, log_of, merge, Run, UserVerdict, is_over, is_parked, start, Kept, StandsFor, Target}}
-use Rattle.tc_board.specs.{Prelude.{HandView, answered}, declared.answer.Answer.Answer, declared.record.Record.Record}
-use Rattle.tc_book.specs.{Closing.IsOneEach, Closing.IsWhole, OneCase.all_started, Closing.merged, Closing.run_log, Hands.answer_in, OpenCase.AreOthers, OpenCase.OpenCase, OpenCase.WouldPark, OpenCase.has_leave, OpenCase.has_wake, OpenCase.open_past, OpenCase.reply_to, OpenCase.start_of, Passes.LeftState, Passes.ended_by, Passes.entry_of, Words.WordsAgree, declared.logged_book.Started.Started, declared.places.Places.Places, declared.until.Lack.Lack, declared.until.Until.Until}
+use Rattle.tc_rules.specs.{declared.{awaited.Awaited.Awaited, closed.CloseFault.CloseFault, run_log.RunLog.RunLog}, Prelude.{Comp, Entry, Op, Reply, IsLegal, answer, comp_of, ends_case, started_on, waiting, part, is_by, is_other, is_verdict_call, log_of, merge, Run, UserVerdict, is_over, is_parked, start, Kept, StandsFor, Target, given, ends_pass}}
+use Rattle.tc_board.specs.{Prelude.{HandView, answered, worst_answer}, declared.{answer.Answer.Answer, record.Record.{Record, TheVariants.Closed}}}
+use Rattle.tc_book.specs.{Closing.{IsOneEach, IsWhole, merged}, OneCase.all_started, Hands.{answer_in, answers_in}, OpenCase.{AreOthers, OpenCase, WouldPark, has_leave, has_wake, open_past, reply_to, start_of}, Passes.LeftState, Words.WordsAgree, declared.{logged_book.Started.Started, places.Places.Places, until.{Lack.Lack, Until.Until}}}
+
+-- this was left of run b
+abbrev pub is_left_of : ℕ → LeftState → Bool
+is_left_of b l = l.run.0 == b
+
+-- the log of a run that left; the merge asks only for its run and its entries
+abbrev pub run_log : LeftState → RunLog
+run_log l = record { run = l.run; comp = record { 0 = 0 }; entries = l.log }
+
+-- the word was closed, and its close counted the carried verdict and exactly the settings of this log that were taken
+abbrev pub Counts : Record → List Entry → Type 0
+Counts (Closed carried counted) log = given counted ≡ worst_answer carried (answers_in log)
+Counts _ log = ⊥
+
+-- some entry of this log ended the pass on this component
+abbrev pub ended_by : Comp → List Entry → Bool
+ended_by own log = list_any (ends_pass own) log
+
+-- an entry of a run
+abbrev pub entry_of : Run → Op → Reply → Entry
+entry_of run op reply = record { caller = run; op = op; reply = reply }
+
+-- at the opening each run has a place for its leaving
+abbrev pub opening_place : Places
+opening_place = record { leave = true; wake = false }
 
 -- one if it is so
 abbrev pub one_if : Bool → ℕ

@@ -1,5 +1,5 @@
 -- What contracts see of a book: the places that it keeps, what each run was started with, and the runs that an entry wakes.
-use Rattle.std.specs.{Prelude.{ℕ, ◌≡◌, ◌++◌, ◌∷◌, [], if◌then◌else◌, Bool, true, false, List, reverse, set, slice_index_or, ◌==◌, Option, Some, None}, Option.{option_and_then, option_or}}
+use Rattle.std.specs.{Prelude.{ℕ, ◌≡◌, ◌++◌, ◌∷◌, [], if◌then◌else◌, Bool, true, false, List, reverse, set, slice_index_or, ◌==◌, Option, Some, None}, Option.{option_and_then, option_or}, List.AllByRecursion}
 use Rattle.tc_rules.specs.Prelude.{Run, Entry, Op, Reply, is_verdict_call, answer, is_parked, Comp, is_ok, start, Target, is_over}
 use Rattle.tc_board.specs.declared.record.Record.{Record}
 use Rattle.tc_book.specs.declared.places.Places.{Places}
@@ -14,8 +14,7 @@ pub record OpenCase : Type 0 where
 
 -- none of the entries is one of a verdict call
 abbrev pub AreOthers : List Entry → Type 0
-AreOthers [] = Unit {0}
-AreOthers (e ∷ past) = (is_verdict_call e.op ≡ false) × AreOthers past
+AreOthers past = AllByRecursion (λ e. is_verdict_call e.op ≡ false) past
 
 -- the entries of the case, the newest first
 abbrev pub open_past : OpenCase → List Entry
@@ -28,10 +27,6 @@ reply_to b run op = answer b.behaviours (open_past b) run.0 op
 -- the history with one more entry
 abbrev pub with_entry : OpenCase → Run → Op → Reply → List Entry
 with_entry b run op reply = b.history ++ record { caller = run; op = op; reply = reply } ∷ []
-
--- at the opening each run has a place for its leaving
-abbrev pub opening_place : Places
-opening_place = record { leave = true; wake = false }
 
 -- the places that are kept for a run: none for one that does not exist
 abbrev pub places_at : List Places → Run → Places

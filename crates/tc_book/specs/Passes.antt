@@ -1,6 +1,6 @@
 -- What contracts see of a pass and of what it leaves, and what its calls add to its log.
 use Rattle.std.specs.{Prelude.{◌≡◌, ◌++◌, ◌∷◌, [], ◌⊎◌, Bool, true, false, Option, Some, None, MatchOption, List, Result, Ok, Err, ℕ, codes}, List.list_any}
-use Rattle.tc_rules.specs.Prelude.{Run, Comp, Entry, Op, Target, Reply, ends_pass, memory_text, fault_name}
+use Rattle.tc_rules.specs.Prelude.{Run, Comp, Entry, Op, Target, Reply, memory_text, fault_name, ends_pass}
 use Rattle.tc_book.specs.declared.halt.Halt.{Halt}
 
 -- a pass: its run, the component and the arguments that the run was started with, and its entries, the oldest first
@@ -16,21 +16,13 @@ pub record LeftState : Type 0 where
   pub log : List Entry
   pub started : Option (Comp × List Comp)
 
--- some entry of this log did
-abbrev pub ended_by : Comp → List Entry → Bool
-ended_by own log = list_any (ends_pass own) log
-
--- the pass is ended from the first such entry on
+-- some entry of its log ended the pass
 abbrev pub has_ended : PassState → Bool
-has_ended p = ended_by p.me p.log
-
--- an entry of a run
-abbrev pub entry_of : Run → Op → Reply → Entry
-entry_of run op reply = record { caller = run; op = op; reply = reply }
+has_ended p = list_any (ends_pass p.me) p.log
 
 -- the pass with one more entry of its own in its log
 abbrev pub with_own_entry : PassState → Op → Reply → PassState
-with_own_entry p op reply = record p { log = p.log ++ entry_of p.run op reply ∷ [] }
+with_own_entry p op reply = record p { log = p.log ++ record { caller = p.run; op = op; reply = reply } ∷ [] }
 
 -- the reply that a call got, by its answer; none if memory ran out
 abbrev pub reply_of : {A : Type 0} → (A → Reply) → Result A Halt → Option Reply

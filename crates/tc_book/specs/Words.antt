@@ -18,10 +18,6 @@ closing _ = UserVerdict.None
 abbrev pub record_at : List Record → ℕ → Record
 record_at words b = slice_index_or words b Unbegun
 
--- what the close of this run's word gave: none if there is no run
-abbrev pub left_by : List Record → Option Run → UserVerdict
-left_by words last = option_map_or (λ run. closing (record_at words run.0)) last UserVerdict.None
-
 -- the run before run b on its component: the last on it as run b was started
 abbrev pub run_before : List Entry → ℕ → Option Run
 run_before [] b = None
@@ -29,7 +25,7 @@ run_before (e ∷ past) b = if is_some (comp_of past b) then run_before past b e
 
 -- what the component of run b carried as the run was started: what the close of the word of the run before it gave
 abbrev pub carried : List Record → List Entry → ℕ → UserVerdict
-carried words past b = left_by words (run_before past b)
+carried words past b = option_map_or (λ run. closing (record_at words run.0)) (run_before past b) UserVerdict.None
 
 -- The word of a run, by its component, whether it is active, and what it began with. It is unbegun if the run was never
 -- started, open if it is active, and closed if it was halted.

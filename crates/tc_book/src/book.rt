@@ -4,7 +4,7 @@ ghost use Rattle.tc_entry.specs.declared.limits.TheConstants.{BEHAVIOURS};
 ghost use Rattle.tc_rules.specs.Prelude.{IsLegal, is_verdict_call};
 ghost use Rattle.tc_board.specs.Prelude.{new_keeper};
 ghost use Rattle.tc_rules.specs.History as history;
-ghost use Rattle.tc_book.specs.{Inside.start_at, OpenCase.AreOthers, OpenCase.WouldPark, OpenCase.has_leave, OpenCase.has_wake, OpenCase.open_past, OpenCase.opening_place, OpenCase.places_after, OpenCase.reply_to, OpenCase.with_entry, OpenCase.without_leave, OpenCase.without_wake, Words.StayClosed, Words.WordsAgree, Words.record_at};
+ghost use Rattle.tc_book.specs.{Inside.{start_at, opening_place}, OpenCase.{AreOthers, WouldPark, has_leave, has_wake, open_past, places_after, reply_to, with_entry, without_leave, without_wake}, Words.{StayClosed, WordsAgree, record_at}};
 ghost use Rattle.tc_book.specs.OpenCase as cases;
 
 mod closing;
@@ -116,7 +116,9 @@ impl Book {
         requires keeper { keeper ≡ new_keeper (arc_value board) behaviours }
         ensures behaviours { IfOk result (λ b. b.behaviours ≡ behaviours) }
         ensures opening { IfOk result (λ b. b.history ≡ []) }
-        ensures places { IfOk result (λ b. b.places ≡ replicate behaviours opening_place) }
+        // Each run has a place for its leaving.
+        ensures places { IfOk result (λ b. b.places
+            ≡ replicate behaviours (record { leave = true; wake = false })) }
     {
         let words = Words::new(alloc, behaviours, keeper, board)?;
         match at_opening(alloc, behaviours) {

@@ -1,6 +1,6 @@
 //! Whether what came back of a case is whole.
 ghost use Rattle.std.specs.Prelude.{◌≡◌, ◌↔◌, ℕ, ◌<◌, [], None, All, IsTrue, count_by};
-ghost use Rattle.tc_book.specs.{Closing.Agrees, Closing.IsAgreed, Closing.IsOneEach, Closing.is_left_of, Inside.ArePlaced, Inside.IsPlaced};
+ghost use Rattle.tc_book.specs.{Closing.{Agrees, IsAgreed, IsOneEach}, Inside.{is_left_of, ArePlaced, IsPlaced}};
 
 use crate::counting::counts;
 use crate::left::Left;

@@ -1,7 +1,7 @@
 //! The logs of a case by the numbers of their runs.
 ghost use Rattle.std.specs.Prelude.{◌≡◌, ◌<◌, ℕ, [], All, IfOk, length, map, slice_index_or};
 ghost use Rattle.tc_rules.specs.Prelude.{log_of};
-ghost use Rattle.tc_book.specs.Closing.{run_log};
+ghost use Rattle.tc_book.specs.Inside.{run_log};
 
 use crate::left::Left;
 use std::alloc::Global;

@@ -127,7 +127,7 @@ impl Words {
 
     /// What the close of a run's word gave.
     fn left_by(&self, last: Option<Run>) -> UserVerdict
-        ensures { result ≡ rules.left_by self.now last }
+        ensures { result ≡ inside.left_by self.now last }
     {
         match last {
             Some(run) => closing(self.record_of(run)),

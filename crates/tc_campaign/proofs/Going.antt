@@ -1,17 +1,10 @@
 -- The run of a campaign with its observer, case by case.
-use Rattle.std.proofs.Common.{ℕ, ◌≡◌, ◌∙◌, ◌++◌, ◌∷◌, [], Bool, Option, Some, None, List, map, length, refl, subst, sym, ap}
-use Rattle.std.specs.Prelude.{IfSome, slice_get}
-use Rattle.std.proofs.lemmas.List.Elements.{All-nil}
-use Rattle.tc_rules.specs.Prelude.{Verdict}
+use Rattle.std.{proofs.{Common.{ℕ, ◌≡◌, ◌∙◌, ◌++◌, ◌∷◌, [], Bool, Option, Some, None, List, map, length, refl, subst, sym, ap}, lemmas.List.Elements.All-nil}, specs.Prelude.{IfSome, slice_get}}
+use Rattle.tc_rules.specs.{Prelude.Verdict, declared.refusal.CaseError.CaseError}
 use Rattle.tc_book.specs.Prelude.{PassState}
-use Rattle.tc_rules.specs.declared.refusal.CaseError.{CaseError}
-use Rattle.tc_exec.specs.declared.{job.Back.Back, test_case.Case.Case}
-use Rattle.tc_report.specs.declared.results.{CampaignEnd.CampaignEnd, Finished.Finished}
-use Rattle.tc_report.specs.Prelude.{AreTaken}
-use Rattle.tc_report.proofs.Lemmas.Keeping.{taken_more}
-use Rattle.tc_exec.proofs.Lemmas.Taking.{done_more, done_none}
-use Rattle.tc_campaign.specs.{Campaign.AreBack, Campaign.IsCalled, Campaign.IsRefusal, Inside.HasThreads, Inside.IsGoing, Inside.IsOf, Inside.IsSoFar, Inside.IsStep, Inside.WasRun, Outline.outline_of, declared.step.Step.Step}
-use Rattle.tc_campaign.proofs.{Lemmas.Running.done_begin, Lemmas.Running.run_aborted, Lemmas.Running.run_complete, Lemmas.Running.run_cut, Lemmas.Running.run_stopped, Lemmas.Running.so_far_more, Lemmas.Running.so_far_none, Lemmas.Running.threads_more, Places.slice_get-behind}
+use Rattle.tc_exec.{specs.declared.{job.Back.Back, test_case.Case.Case}, proofs.Lemmas.Taking.{done_more, done_none}}
+use Rattle.tc_report.{specs.{declared.results.{CampaignEnd.CampaignEnd, Finished.Finished}, Prelude.AreTaken}, proofs.Lemmas.Keeping.taken_more}
+use Rattle.tc_campaign.{specs.{Campaign.{AreBack, IsCalled, IsRefusal}, Inside.{HasThreads, IsGoing, IsOf, IsSoFar, IsStep, WasRun}, Outline.outline_of, declared.step.Step.Step}, proofs.{Lemmas.Running.{done_begin, run_aborted, run_complete, run_cut, run_stopped, so_far_more, so_far_none, threads_more}, Places.slice_get-behind}}
 
 module _ {B O : Type 0} (outcome : B → PassState → Back → Type 0) (takes : O → Finished → O → Bool → Type 0)
     (stop_on : Option Verdict) (threads : ℕ) (cases : List (Case B)) where

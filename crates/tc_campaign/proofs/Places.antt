@@ -1,9 +1,5 @@
 -- Lists that agree with the beginning of another, and the last element of a list.
-use Rattle.std.proofs.Common.{ℕ, zero, suc, ◌≡◌, ◌∙◌, ◌-◌, ◌++◌, ◌∷◌, [], Some, List, All, length, take, arith, refl, sym, ap, subst}
-use Rattle.std.specs.Prelude.{IfSome, slice_get}
-use Rattle.std.specs.List.{AllZip}
-use Rattle.std.proofs.Math.Seq.{take-append_seam}
-use Rattle.std.proofs.lemmas.{List.Elements.All-head, List.Elements.All-tail, List.length-append, Slice.Zip.AllZip-long}
+use Rattle.std.{proofs.{Common.{ℕ, zero, suc, ◌≡◌, ◌∙◌, ◌-◌, ◌++◌, ◌∷◌, [], Some, List, All, length, take, arith, refl, sym, ap, subst}, Math.Seq.take-append_seam, lemmas.{List.{Elements.{All-head, All-tail}, length-append}, Slice.Zip.AllZip-long}}, specs.{Prelude.{IfSome, slice_get}, List.AllZip}}
 
 pub AllZip-weaker : {A B : Type 0} (Q R : A → B → Type 0) → ((x : A) (y : B) → Q x y → R x y) → (xs : List A) (ys : List B) → AllZip Q xs ys → AllZip R xs ys
 AllZip-weaker Q R weaker [] [] each = tt

@@ -1,17 +1,10 @@
 -- The results of a run are right.
-use Rattle.std.proofs.Common.{ℕ, Bool, Some, None, ◌≡◌, ◌∙◌, ◌-◌, ◌++◌, ◌∷◌, [], Option, List, All, length, map, take, arith, refl, sym, ap, subst, append_assoc, slice_index_or}
-use Rattle.std.specs.Prelude.{IfNone, IfSome, IsNone, IsSomeAnd, slice_get}
-use Rattle.std.specs.List.{AllZip}
-use Rattle.std.proofs.lemmas.List.Elements.{All-map, All-nil, All-cons, All-head, All-tail, All-take}
-use Rattle.tc_rules.specs.Prelude.{Verdict}
+use Rattle.std.{proofs.{Common.{ℕ, Bool, Some, None, ◌≡◌, ◌∙◌, ◌-◌, ◌++◌, ◌∷◌, [], Option, List, All, length, map, take, arith, refl, sym, ap, subst, append_assoc, slice_index_or}, lemmas.List.Elements.{All-map, All-nil, All-cons, All-head, All-tail, All-take}}, specs.{Prelude.{IfNone, IfSome, IsNone, IsSomeAnd, slice_get}, List.AllZip}}
+use Rattle.tc_rules.specs.{Prelude.Verdict, declared.refusal.CaseError.CaseError}
 use Rattle.tc_book.specs.Prelude.{PassState}
-use Rattle.tc_rules.specs.declared.refusal.CaseError.{CaseError}
-use Rattle.tc_exec.specs.declared.{job.Back.Back, test_case.Case.Case}
-use Rattle.tc_report.specs.declared.results.{CampaignEnd.CampaignEnd, Finished.Finished}
-use Rattle.tc_report.specs.Prelude.{IsMet}
-use Rattle.tc_exec.proofs.Lemmas.Taking.{AllZip-pushed}
-use Rattle.tc_campaign.specs.{Campaign.AreFinished, Campaign.IsCalled, Campaign.IsCutShort, Campaign.IsEnding, Campaign.IsObserved, Campaign.IsOfCase, Campaign.IsRefusal, Inside.HasBehaviours, Inside.IsBetter, Inside.IsNamed, Inside.IsOf, Inside.IsReported, Inside.IsRun, Inside.IsRun.aborted, Inside.IsRun.complete, Inside.IsRun.cut, Inside.IsRun.stopped, Inside.IsSoFar, Inside.IsWhy, Inside.WasRun, Outline.HasNames, Outline.Outline, Outline.outline_of}
-use Rattle.tc_campaign.proofs.Places.{AllZip-weaker, AllZip-begin, slice_get-behind, take-front, slice_get-last, All-slice_get}
+use Rattle.tc_exec.{specs.declared.{job.Back.Back, test_case.Case.Case}, proofs.Lemmas.Taking.AllZip-pushed}
+use Rattle.tc_report.specs.{declared.results.{CampaignEnd.CampaignEnd, Finished.Finished}, Prelude.IsMet}
+use Rattle.tc_campaign.{specs.{Campaign.{AreFinished, IsCalled, IsCutShort, IsEnding, IsObserved, IsOfCase, IsRefusal}, Inside.{HasBehaviours, IsBetter, IsNamed, IsOf, IsReported, IsRun, IsRun.{aborted, complete, cut, stopped}, IsSoFar, IsWhy, WasRun}, Outline.{HasNames, Outline, outline_of}}, proofs.Places.{AllZip-weaker, AllZip-begin, slice_get-behind, take-front, slice_get-last, All-slice_get}}
 
 -- the finished cases are of a beginning of the list
 each_of : (cases : List Outline) (stop_on : Option Verdict) (finished : List Finished) (answer : Option CampaignEnd) → IsRun cases stop_on finished answer → AllZip IsOf (take (length finished) cases) finished

@@ -1,14 +1,10 @@
 -- Right results of a campaign.
-use Rattle.std.specs.Prelude.{ℕ, ◌≡◌, ◌<◌, ◌≤◌, ◌+◌, ◌-◌, ◌⊎◌, ◌++◌, ◌∷◌, Bool, Option, List, [], All, IfSome, IsNone, IsSomeAnd, length, map, take, slice_get, false}
-use Rattle.std.specs.List.{AllZip}
-use Rattle.tc_rules.specs.Prelude.{IsBehaviours, Verdict}
+use Rattle.std.specs.{Prelude.{ℕ, ◌≡◌, ◌<◌, ◌≤◌, ◌+◌, ◌-◌, ◌⊎◌, ◌++◌, ◌∷◌, Bool, Option, List, [], All, IfSome, IsNone, IsSomeAnd, length, map, take, slice_get, false}, List.AllZip}
+use Rattle.tc_rules.specs.{Prelude.{IsBehaviours, Verdict}, declared.refusal.CaseError.{CaseError, TheVariants.NoMemory}}
 use Rattle.tc_entry.specs.declared.limits.TheConstants.{BEHAVIOURS}
 use Rattle.tc_book.specs.Prelude.{PassState}
-use Rattle.tc_rules.specs.declared.refusal.CaseError.{CaseError, TheVariants.NoMemory}
-use Rattle.tc_exec.specs.declared.{job.Back.Back, test_case.Case.Case}
-use Rattle.tc_exec.specs.Prelude.{IsCaseReport, AreCalled, IsHandedBack, IsMadeOf}
-use Rattle.tc_report.specs.declared.results.{CampaignEnd.CampaignEnd, Finished.Finished}
-use Rattle.tc_report.specs.Prelude.{AreTaken, IsMet}
+use Rattle.tc_exec.specs.{declared.{job.Back.Back, test_case.Case.Case}, Prelude.{IsCaseReport, AreCalled, IsHandedBack, IsMadeOf}}
+use Rattle.tc_report.specs.{declared.results.{CampaignEnd.CampaignEnd, Finished.Finished}, Prelude.{AreTaken, IsMet}}
 use Rattle.tc_campaign.specs.Outline.{Outline, outline_of}
 
 -- a finished case has the name and the behaviour names of this case

@@ -1,15 +1,11 @@
 -- What the functions inside of a campaign say, which no public clause names.
-use Rattle.std.specs.Prelude.{ℕ, ◌≡◌, ◌≤◌, ◌+◌, ◌++◌, ◌∷◌, [], ⊤, Option, Some, None, Bool, true, false, Result, Ok, Err, List, All, IfSome, length, map, take, slice_get}
-use Rattle.std.specs.List.{AllZip}
-use Rattle.tc_rules.specs.Prelude.{IsBehaviours, Verdict}
+use Rattle.std.specs.{Prelude.{ℕ, ◌≡◌, ◌≤◌, ◌+◌, ◌++◌, ◌∷◌, [], ⊤, Option, Some, None, Bool, true, false, Result, Ok, Err, List, All, IfSome, length, map, take, slice_get}, List.AllZip}
+use Rattle.tc_rules.specs.{Prelude.{IsBehaviours, Verdict}, declared.{closed.Closed.Closed, refusal.CaseError.CaseError}}
 use Rattle.tc_entry.specs.declared.limits.TheConstants.{BEHAVIOURS}
-use Rattle.tc_rules.specs.declared.{closed.Closed.Closed, refusal.CaseError.CaseError}
-use Rattle.tc_exec.specs.Prelude.{IsCaseReport}
-use Rattle.tc_exec.specs.{Inside.AreDone, declared.job.Back.Back, declared.test_case.Case.Case}
+use Rattle.tc_exec.specs.{Prelude.IsCaseReport, Inside.AreDone, declared.{job.Back.Back, test_case.Case.Case}}
 use Rattle.tc_book.specs.Prelude.{PassState}
-use Rattle.tc_report.specs.{Inside.IsEndedAt, declared.results.CampaignEnd.CampaignEnd, declared.results.Finished.Finished}
-use Rattle.tc_report.specs.Prelude.{AreTaken, IsMet}
-use Rattle.tc_campaign.specs.{Campaign.AreBack, Campaign.IsCalled, Campaign.IsOfCase, Campaign.IsRefusal, Outline.Outline, Outline.outline_of, declared.step.Step.Step}
+use Rattle.tc_report.specs.{Inside.IsEndedAt, declared.results.{CampaignEnd.CampaignEnd, Finished.Finished}, Prelude.{AreTaken, IsMet}}
+use Rattle.tc_campaign.specs.{Campaign.{AreBack, IsCalled, IsOfCase, IsRefusal}, Outline.{Outline, outline_of}, declared.step.Step.Step}
 
 -- the stopping rule is not met
 abbrev pub IsBetter : Option Verdict → Verdict → Type 0

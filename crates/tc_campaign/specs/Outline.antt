@@ -1,6 +1,5 @@
 -- Test cases without what their jobs do.
-use Rattle.std.specs.Prelude.{ℕ, ◌≡◌, List}
-use Rattle.std.specs.Vec.{vec_len}
+use Rattle.std.specs.{Prelude.{ℕ, ◌≡◌, List}, Vec.vec_len}
 use Rattle.tc_exec.specs.declared.test_case.Case.{Case}
 
 -- a case has as many names of behaviours as jobs

@@ -1,3 +1,2 @@
 -- What other crates cite of these definitions.
-pub use Rattle.tc_campaign.specs.Campaign.{AreBack, AreFinished, IsCalled, IsCutShort, IsEnding, IsObserved, IsOfCase, IsRefusal, IsRunTo}
-pub use Rattle.tc_campaign.specs.Outline.{HasNames, Outline, outline_of}
+pub use Rattle.tc_campaign.specs.{Campaign.{AreBack, AreFinished, IsCalled, IsCutShort, IsEnding, IsObserved, IsOfCase, IsRefusal, IsRunTo}, Outline.{HasNames, Outline, outline_of}}

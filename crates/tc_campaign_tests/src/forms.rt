@@ -7,11 +7,11 @@ use std::process::Abort;
 use std::test::Fail;
 use tc_book::Sequence;
 use tc_campaign::{CampaignEnd, OutFault, Results, write_abort, write_evidence};
-use tc_entry::{Name, UserVerdict};
+use tc_entry::{Entry, Fault, Op, Reply, Run, Target, UserVerdict, Verdict};
 use tc_exec::CaseError;
 use tc_report::{
-    Summary, csv_report, junit_report, summaries_of_results, summary_report, worst_status,
-    write_junit,
+    Summary, Times, csv_report, junit_report, summaries_of_results, summary_of_case,
+    summary_report, worst_status, write_junit,
 };
 
 const TABLE: &str = "testcase,components,none,pass,inconc,fail,error,verdict
@@ -23,34 +23,34 @@ e,0,0,0,0,0,0,notrun
 ";
 
 const SUITE: &str = "<?xml version=\"1.0\" encoding=\"UTF-8\"?>
-<testsuites tests=\"5\" failures=\"2\" errors=\"1\">
+<testsuites tests=\"5\" failures=\"2\" errors=\"1\" skipped=\"1\">
 <testsuite name=\"ttrun\" tests=\"5\" failures=\"2\" errors=\"1\" skipped=\"1\">
 <properties>
 <property name=\"version\" value=\"7\"/>
 </properties>
 <testcase name=\"a\" classname=\"ttrun\">
 <system-out>
-local 0 pass
+  pass: mtc
 </system-out>
 </testcase>
 <testcase name=\"b\" classname=\"ttrun\">
-<failure type=\"fail\" message=\"run 0 on component 0: setverdict fail -> ok\">
-run 0 on component 0: setverdict fail -> ok
+<failure type=\"fail\" message=\"run 0 main on mtc: setverdict fail -> ok\">
+run 0 main on mtc: setverdict fail -> ok
   setverdict fail -> ok
   finish -> ok
 </failure>
 <system-out>
-local 0 fail
+  fail: mtc
 </system-out>
 </testcase>
 <testcase name=\"c\" classname=\"ttrun\">
-<failure type=\"inconc\" message=\"run 0 on component 0: setverdict inconc -> ok\">
-run 0 on component 0: setverdict inconc -> ok
+<failure type=\"inconc\" message=\"run 0 main on mtc: setverdict inconc -> ok\">
+run 0 main on mtc: setverdict inconc -> ok
   setverdict inconc -> ok
   finish -> ok
 </failure>
 <system-out>
-local 0 inconc
+  inconc: mtc
 </system-out>
 </testcase>
 <testcase name=\"d\" classname=\"ttrun\">
@@ -72,12 +72,12 @@ aborted 1
 notrun 1
 
 b: fail
-  run 0 on component 0: setverdict fail -> ok
-  fail: 0
+  run 0 main on mtc: setverdict fail -> ok
+  fail: mtc
 
 c: inconc
-  run 0 on component 0: setverdict inconc -> ok
-  inconc: 0
+  run 0 main on mtc: setverdict inconc -> ok
+  inconc: mtc
 
 d: aborted
   torn
@@ -94,7 +94,7 @@ end pass
 fn have_forms<R: Abort>(rt: &R, alloc: Global, cases: &[Summary]) -> Result<(), Fail> {
     let table = csv_report(alloc, cases)?;
     is(rt, "the table", table.as_slice(), TABLE.as_bytes());
-    let suite = junit_report(alloc, "7", &None, cases)?;
+    let suite = junit_report(alloc, "7", &None, &Times::none(alloc), cases)?;
     is(rt, "the suite", suite.as_slice(), SUITE.as_bytes());
     let summary = summary_report(alloc, cases)?;
     is(rt, "the summary", summary.as_slice(), SUMMARY.as_bytes());
@@ -102,15 +102,10 @@ fn have_forms<R: Abort>(rt: &R, alloc: Global, cases: &[Summary]) -> Result<(), 
     Ok(())
 }
 
-/// Checks the suite that is written of results of test cases with these names.
-fn has_suite<R: Abort>(
-    rt: &R,
-    alloc: Global,
-    names: &[Name],
-    results: &Results,
-) -> Result<(), Fail> {
+/// Checks the suite that is written of test cases.
+fn has_suite<R: Abort>(rt: &R, alloc: Global, cases: &[Summary]) -> Result<(), Fail> {
     let mut suite = Vec::new(alloc);
-    write_junit(alloc, "7", &None, names, results, &mut suite)?;
+    write_junit(alloc, "7", &None, &Times::none(alloc), cases, &mut suite)?;
     is(rt, "the suite", suite.as_slice(), SUITE.as_bytes());
     Ok(())
 }
@@ -121,7 +116,30 @@ fn forms_of_an_aborted_campaign(rt: HostRuntime) -> Result<(), Fail> {
     let results = results(rt.alloc(), aborted("d", CaseError::Torn)?)?;
     let summaries = summaries_of_results(rt.alloc(), &names, &results)?;
     have_forms(&rt, rt.alloc(), summaries.as_slice())?;
-    has_suite(&rt, rt.alloc(), &names, &results)
+    has_suite(&rt, rt.alloc(), summaries.as_slice())
+}
+
+// A call that the table replies to in another way than its history says is no reason to refuse a summary, nor is a number
+// of behaviours that no test case has.
+#[test]
+fn no_history_is_refused_a_summary(rt: HostRuntime) -> Result<(), Fail> {
+    for behaviours in [0, 1, 257] {
+        let mut case = finished(rt.alloc(), "a", UserVerdict::Pass)?;
+        case.report.behaviours = behaviours;
+        case.report.verdict = Verdict::Error;
+        let wait = Op::Wait {
+            killed: false,
+            target: Target::Any,
+        };
+        case.report.history.push(Entry {
+            caller: Run(0),
+            op: wait,
+            reply: Reply::Fault(Fault::Stuck),
+        })?;
+        let summary = summary_of_case(rt.alloc(), &case)?;
+        is(&rt, "the lines", summary.waits.as_slice(), b"");
+    }
+    Ok(())
 }
 
 /// Checks the line of an abort at the test case d.

@@ -19,6 +19,7 @@ use tc_campaign::{
 };
 use tc_entry::{Name, UserVerdict, Verdict};
 use tc_exec::Callable;
+use tc_report::{Shown, Stopwatch};
 use tc_stream::devices::{NarrowWriter, WriteFailure};
 
 /// Notes how many test cases have begun when each report comes, and ends the campaign at the report of this number.
@@ -282,7 +283,9 @@ fn tell_cases<R: Threads + Wait + Copy + Send + 'static, B: Callable, W: Write>(
     requires { All HasNames cases.items }
 {
     let mut failed = Vec::new(alloc);
-    let mut progress = Progress::new(alloc, &NoClock, names, None, live, lines, &mut failed);
+    let shown = Shown { names, only: false };
+    let mut watch = Stopwatch::new(alloc, &NoClock, true);
+    let mut progress = Progress::new(alloc, &mut watch, shown, None, live, lines, &mut failed);
     progress.begin();
     let ending = run_campaign_with(rt, alloc, cases, None, 0, &mut progress);
     let told = progress.end();
@@ -318,8 +321,9 @@ fn a_campaign_that_is_cut_short_is_told_of(rt: HostRuntime) -> Result<(), Fail> 
     let wanted = "1/3 a ..
 1/3 a pass
 2/3 b ..
-2/3 b fail: run 0 on component 0: setverdict fail -> ok
-failed: b fail: run 0 on component 0: setverdict fail -> ok
+2/3 b fail: run 0 main on mtc: setverdict fail -> ok
+failed: b fail: run 0 main on mtc: setverdict fail -> ok
+1 passed, 1 failed
 ";
     is(&rt, "what is told", lines.as_slice(), wanted.as_bytes());
     Ok(())

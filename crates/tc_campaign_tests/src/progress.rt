@@ -3,7 +3,7 @@ ghost use Rattle.std.specs.Prelude.{⊤};
 
 use crate::checks::{holds, is};
 use crate::devices::FAILURES;
-use crate::results::{CASES, finished, name};
+use crate::results::{CASES, finished, name, results};
 use std::alloc::Global;
 use std::cell::Cell;
 use std::io::Write;
@@ -11,23 +11,30 @@ use std::process::Abort;
 use std::test::Fail;
 use std::time::{Clock, Duration};
 use std::{io, str};
-use tc_campaign::{Finished, Observer, OutFault, Progress};
+use tc_campaign::{CampaignEnd, Finished, Observer, OutFault, Progress};
 use tc_entry::{Name, Verdict};
+use tc_report::{Shown, Stopwatch, Timed, Times, junit_report, summaries_of_results};
 use tc_stream::devices::{NarrowWriter, WriteFailure};
 
 const TOLD: &str = "1/3 a ..
 1/3 a pass 0.007 s
 2/3 b ..
-2/3 b fail 0.041 s: run 0 on component 0: setverdict fail -> ok
+2/3 b fail 0.041 s: run 0 main on mtc: setverdict fail -> ok
 3/3 c ..
-3/3 c inconc 75.100 s: run 0 on component 0: setverdict inconc -> ok
-failed: b fail: run 0 on component 0: setverdict fail -> ok
-failed: c inconc: run 0 on component 0: setverdict inconc -> ok
+3/3 c inconc 75.100 s: run 0 main on mtc: setverdict inconc -> ok
+failed: b fail: run 0 main on mtc: setverdict fail -> ok
+failed: c inconc: run 0 main on mtc: setverdict inconc -> ok
+1 passed, 2 failed, 75.1 s
 ";
 
-// What a clock says one time after the other, in thousandths of a second: when each test case begins, and when it has
-// ended.
-const TIMES: [u64; 6] = [60_000, 60_007, 60_007, 60_048, 60_048, 135_148];
+// What a clock says one time after the other, in thousandths of a second: when each test case begins, when it has ended,
+// and twice when all have.
+const TIMES: [u64; 8] = [
+    60_000, 60_007, 60_007, 60_048, 60_048, 135_148, 135_148, 135_149,
+];
+
+// 2024-02-29T23:59:59, in seconds since 1970.
+const SECOND: u64 = 1_709_251_199;
 
 /// A clock that says these times. After the last it fails.
 #[derive(Drop)]
@@ -56,7 +63,7 @@ impl Clock for Watch {
     }
 
     fn since_1970(&self) -> io::Result<Duration> {
-        self.monotonic()
+        Ok(Duration::from_millis(SECOND * 1000 + 999))
     }
 }
 
@@ -88,7 +95,7 @@ fn names(alloc: Global) -> Result<Vec<Name>, Fail> {
 fn tell_each<E: Write>(
     alloc: Global,
     stop_on: Option<Verdict>,
-    progress: &mut Progress<'_, Counting, E, Watch>,
+    progress: &mut Progress<'_, '_, Counting, E, Watch>,
 ) -> Result<(), Fail> {
     progress.begin();
     for (text, setting) in CASES {
@@ -102,9 +109,10 @@ fn tell_each<E: Write>(
     Ok(())
 }
 
-/// Reports the test cases, and says how many were taken, and what came of it.
+/// Reports the test cases, or only those that have failed, and says how many were taken, and what came of it.
 fn tell<E: Write>(
     alloc: Global,
+    only: bool,
     stop_on: Option<Verdict>,
     times: &'static [u64],
     writer: &mut E,
@@ -112,11 +120,16 @@ fn tell<E: Write>(
     let mut counting = Counting { taken: 0 };
     // What is in it is of another campaign, and is not printed.
     let mut failed = vec![in alloc; b'x']?;
-    let (watch, names) = (Watch::new(times), names(alloc)?);
+    let names = names(alloc)?;
+    let clock = Watch::new(times);
+    let mut watch = Stopwatch::new(alloc, &clock, true);
     let mut progress = Progress::new(
         alloc,
-        &watch,
-        names.as_slice(),
+        &mut watch,
+        Shown {
+            names: names.as_slice(),
+            only,
+        },
         stop_on,
         &mut counting,
         writer,
@@ -141,7 +154,7 @@ fn tell_in_vain<R: Abort>(
         Err(OutFault::Write)
     };
     let mut writer = NarrowWriter::new(alloc, fails_at, failure);
-    let (taken, answer) = tell(alloc, None, &TIMES, &mut writer)?;
+    let (taken, answer) = tell(alloc, false, None, &TIMES, &mut writer)?;
     is(rt, "how many cases are taken", taken, CASES.len());
     is(rt, "the answer", answer, wanted);
     is(rt, "what is told", writer.taken.as_slice(), part);
@@ -166,7 +179,7 @@ fn told_of(
     times: &'static [u64],
 ) -> Result<Vec<u8>, Fail> {
     let mut lines = Vec::new(alloc);
-    let (_, answer) = tell(alloc, stop_on, times, &mut lines)?;
+    let (_, answer) = tell(alloc, false, stop_on, times, &mut lines)?;
     answer?;
     Ok(lines)
 }
@@ -191,13 +204,72 @@ fn without_a_time(rt: HostRuntime) -> Result<(), Fail> {
     let wanted = "1/3 a ..
 1/3 a pass 0.000 s
 2/3 b ..
-2/3 b fail: run 0 on component 0: setverdict fail -> ok
+2/3 b fail: run 0 main on mtc: setverdict fail -> ok
 3/3 c ..
-3/3 c inconc: run 0 on component 0: setverdict inconc -> ok
-failed: b fail: run 0 on component 0: setverdict fail -> ok
-failed: c inconc: run 0 on component 0: setverdict inconc -> ok
+3/3 c inconc: run 0 main on mtc: setverdict inconc -> ok
+failed: b fail: run 0 main on mtc: setverdict fail -> ok
+failed: c inconc: run 0 main on mtc: setverdict inconc -> ok
+1 passed, 2 failed
 ";
     is(&rt, "what is told", told.as_slice(), wanted.as_bytes());
+    Ok(())
+}
+
+/// Times of three test cases, of which two are kept.
+fn kept_times(alloc: Global) -> Result<Times, Fail> {
+    let clock = Watch::new(&TIMES);
+    let mut watch = Stopwatch::new(alloc, &clock, true);
+    watch.make_room(2)?;
+    watch.begin();
+    let mut counting = Counting { taken: 0 };
+    let mut timed = Timed::new(&mut watch, &mut counting);
+    for (text, setting) in CASES {
+        timed.take(finished(alloc, text, setting)?);
+    }
+    Ok(watch.take_times())
+}
+
+// A clock that nobody wants a time of is not read.
+#[test]
+fn an_unread_clock(rt: HostRuntime) -> Result<(), Fail> {
+    let clock = Watch::new(&TIMES);
+    let mut watch = Stopwatch::new(rt.alloc(), &clock, false);
+    watch.begin();
+    is(&rt, "a time", watch.finish(), None);
+    is(&rt, "how often it is read", clock.place.get(), 0);
+    Ok(())
+}
+
+// A suite has the times that are known: none of the third test case.
+#[test]
+fn a_suite_has_times(rt: HostRuntime) -> Result<(), Fail> {
+    let results = results(rt.alloc(), CampaignEnd::Complete)?;
+    let cases = summaries_of_results(rt.alloc(), &[], &results)?;
+    let times = kept_times(rt.alloc())?;
+    let suite = junit_report(rt.alloc(), "7", &None, &times, cases.as_slice())?;
+    let text = str::from_utf8(suite.as_slice())?;
+    for part in [
+        " skipped=\"0\" timestamp=\"2024-02-29T23:59:59\" time=\"75.149\">\n<properties>",
+        "<testcase name=\"a\" classname=\"ttrun\" time=\"0.007\">\n",
+        "<testcase name=\"b\" classname=\"ttrun\" time=\"0.041\">\n",
+        "<testcase name=\"c\" classname=\"ttrun\">\n",
+    ] {
+        holds(&rt, part, text.contains(part));
+    }
+    Ok(())
+}
+
+// If only failures are reported, no other test case has a line.
+#[test]
+fn only_failures_have_lines(rt: HostRuntime) -> Result<(), Fail> {
+    let mut lines = Vec::new(rt.alloc());
+    let (_, answer) = tell(rt.alloc(), true, None, &TIMES, &mut lines)?;
+    let wanted = "2/3 b fail 0.041 s: run 0 main on mtc: setverdict fail -> ok
+3/3 c inconc 75.100 s: run 0 main on mtc: setverdict inconc -> ok
+1 passed, 2 failed, 75.1 s
+";
+    is(&rt, "the answer", answer, Ok(()));
+    is(&rt, "what is told", lines.as_slice(), wanted.as_bytes());
     Ok(())
 }
 

@@ -1,13 +1,9 @@
 -- A command that grows by one option or subcommand after the other.
 use Rattle.std.proofs.Common.{◌≡◌, ◌∙◌, ◌+◌, ◌<◌, ◌||◌, List, ap, drop, false, get_or, length, ℕ}
 use native.Mathlib.Numerals.{unary_clauses}
-use Rattle.std.proofs.Math.Bool.{or-false}
-use Rattle.std.proofs.Math.Seq.{drop-cons}
-use Rattle.clap.specs.Words.{AddsArg, AddsSubcommand, App, Rule, app_of, rule_of, with_rule, with_subcommand}
-use Rattle.clap.specs.declared.builder.arg.Arg.{Arg}
-use Rattle.clap.specs.declared.builder.command.Command.{Command}
-use Rattle.clap.specs.declared.builder.command.Command.TheViews.{out-Command}
-use Rattle.tc_command.specs.{Inside.GrowsBy, Inside.app_of_subcommand, Inside.rule_of_row, Inside.with_each, Inside.with_rows, declared.command.OptionRow.OptionRow, declared.command.Subcommand.Subcommand}
+use Rattle.std.proofs.Math.{Bool.or-false, Seq.drop-cons}
+use Rattle.clap.specs.{Words.{AddsArg, AddsSubcommand, App, Rule, app_of, rule_of, with_rule, with_subcommand}, declared.builder.{arg.Arg.Arg, command.Command.{Command, TheViews.out-Command}}}
+use Rattle.tc_command.specs.{Inside.{GrowsBy, app_of_subcommand, rule_of_row, with_each, with_rows}, declared.command.{OptionRow.OptionRow, Subcommand.Subcommand}}
 
 -- an option of this rule more
 pub grows_by_one : {old new : Command} {a : Arg} {rule : Rule} → AddsArg old a new → a.global ≡ false → rule_of a ≡ rule

@@ -1,17 +1,8 @@
 -- The options among the words, as the matches hold them.
-use Rattle.std.proofs.Common.{ℕ, ◌≡◌, ◌∙◌, ◌+◌, ◌<◌, ◌++◌, ◌∷◌, refl, All, ap, get_or, length, map, subst, sym, take, Option, Some, None, List, []}
-use Rattle.std.proofs.lemmas.List.{Elements.All-push, get_or-map, length-map, map-append, take_more}
-use Rattle.std.specs.Prelude.{find, option_map, option_and_then, unwrap_or, ◌||◌, Bool, false, if◌then◌else◌, is_none, true}
-use Rattle.std.specs.{Borrow.Bor, Str.bytes_eq}
-use Rattle.clap.specs.Facts.{Entry}
-use Rattle.clap.specs.Matches.{first_value, matched_of, raw_values}
-use Rattle.clap.specs.Walk.{Row, Text, first_of, row_of, rows_of, texts}
-use Rattle.clap.specs.declared.parser.matches.Found.{Found}
-use Rattle.clap.specs.declared.parser.matches.MatchedArg.{MatchedArg}
-use Rattle.clap.proofs.WalkLemmas.{find_row, first_value-rows, raw_values-rows}
-use Rattle.clap.specs.declared.error.kind.ErrorKind.TheVariants.{ArgumentConflict, MissingRequiredArgument}
+use Rattle.std.{proofs.{Common.{ℕ, ◌≡◌, ◌∙◌, ◌+◌, ◌<◌, ◌++◌, ◌∷◌, refl, All, ap, get_or, length, map, subst, sym, take, Option, Some, None, List, []}, lemmas.List.{Elements.All-push, get_or-map, length-map, map-append, take_more}}, specs.{Prelude.{find, option_map, option_and_then, unwrap_or, ◌||◌, Bool, false, if◌then◌else◌, is_none, true}, Borrow.Bor, Str.bytes_eq}}
+use Rattle.clap.{specs.{Facts.Entry, Matches.{first_value, matched_of, raw_values}, Walk.{Row, Text, first_of, row_of, rows_of, texts}, declared.{parser.matches.{Found.Found, MatchedArg.MatchedArg}, error.kind.ErrorKind.TheVariants.{ArgumentConflict, MissingRequiredArgument}}}, proofs.WalkLemmas.{find_row, first_value-rows, raw_values-rows}}
 use Rattle.tc_entry.specs.Prelude.{IsPattern}
-use Rattle.tc_command.specs.{Asked.lacks_script, Asked.option_faults, Asked.option_values, Asked.report_form_of, declared.command.Subcommand.Subcommand}
+use Rattle.tc_command.specs.{Asked.{lacks_script, option_faults, option_values, report_form_of}, declared.command.Subcommand.Subcommand}
 
 -- the source of an option's value, by its row
 pub source_of : (f : Found) (id : Text) → option_and_then (λ (a : MatchedArg). a.source) (matched_of f id)

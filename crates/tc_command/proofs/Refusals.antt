@@ -1,11 +1,7 @@
 -- What the words are read as, by what the parse answered and what the options ask for.
-use Rattle.std.proofs.Common.{◌≡◌, ◌∙◌, true, sym, ap, subst, Bool, List, [], Result, Ok, Err, inl, inr}
-use Rattle.std.specs.Result.{IsErrAnd}
-use Rattle.clap.specs.Kinds.{Kinds, or_else}
-use Rattle.clap.specs.Words.{App, HasKind, Row, Text, fault_of, is_simple_and_free, kind_of}
-use Rattle.clap.specs.declared.error.Error.{Error}
-use Rattle.clap.proofs.FaultLemmas.{first_fails, past}
-use Rattle.tc_command.specs.{Asked.Asks, Asked.HasBadWord, Asked.IsReadAs, Asked.option_faults, Inside.IsRefusedBy, Inside.IsTaken, Inside.IsToldBy, declared.command.Subcommand.Subcommand, declared.read.Refused.Refused, declared.refusal.Refusal.Refusal, declared.task.Task.Task}
+use Rattle.std.{proofs.Common.{◌≡◌, ◌∙◌, true, sym, ap, subst, Bool, List, [], Result, Ok, Err, inl, inr}, specs.Result.IsErrAnd}
+use Rattle.clap.{specs.{Kinds.{Kinds, or_else}, Words.{App, HasKind, Row, Text, fault_of, is_simple_and_free, kind_of}, declared.error.Error.Error}, proofs.FaultLemmas.{first_fails, past}}
+use Rattle.tc_command.specs.{Asked.{Asks, HasBadWord, IsReadAs, option_faults}, Inside.{IsRefusedBy, IsTaken, IsToldBy}, declared.{command.Subcommand.Subcommand, read.Refused.Refused, refusal.Refusal.Refusal, task.Task.Task}}
 
 -- what a command reads is what the application that it is reads
 pub carried : {T : Type 0} {x : T} (read : App → T) (fits : App → Bool) {command app : App} → command ≡ app → fits app ≡ true

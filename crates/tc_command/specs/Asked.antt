@@ -1,13 +1,8 @@
 -- What the arguments ask for.
-use Rattle.std.specs.Prelude.{◌≡◌, Bool, true, false, ◌&&◌, ◌||◌, not, List, [], ◌∷◌, Option, Some, None, Result, Ok, Err, All, IfSome, codes, find, if◌then◌else◌, is_none, map, option_and_then, unwrap_or}
-use Rattle.std.specs.{List.list_any, Str.bytes_eq}
-use Rattle.clap.specs.Words.{HasKind, Row, Text, all_of, first_of, fault_of, matches_of, subcommand_of}
-use Rattle.clap.specs.Kinds.{Kinds, or_else}
-use Rattle.clap.specs.declared.error.kind.ErrorKind.TheVariants.{ArgumentConflict, MissingRequiredArgument}
-use Rattle.clap.specs.declared.parser.matches.ValueSource.{ValueSource}
-use Rattle.clap.specs.declared.parser.matches.ValueSource.TheVariants.{CommandLine}
+use Rattle.std.specs.{Prelude.{◌≡◌, Bool, true, false, ◌&&◌, ◌||◌, not, List, [], ◌∷◌, Option, Some, None, Result, Ok, Err, All, IfSome, codes, find, if◌then◌else◌, is_none, map, option_and_then, unwrap_or}, List.list_any, Str.bytes_eq}
+use Rattle.clap.specs.{Words.{HasKind, Row, Text, all_of, first_of, fault_of, matches_of, subcommand_of}, Kinds.{Kinds, or_else}, declared.{error.kind.ErrorKind.TheVariants.{ArgumentConflict, MissingRequiredArgument}, parser.matches.ValueSource.{ValueSource, TheVariants.CommandLine}}}
 use Rattle.tc_entry.specs.Prelude.{IsName, IsPattern}
-use Rattle.tc_command.specs.{Command.IsGood, Command.IsRuleOf, Command.IsShardOf, Command.IsStatesOf, Command.cases_app, Command.ttrun, declared.command.Subcommand.Subcommand, declared.read.Refused.Refused, declared.read.TheConstants.APART, declared.read.TheConstants.HISTORY_NEEDS, declared.read.TheConstants.SCRIPT_NEEDS, declared.task.Choice.Choice, declared.task.ExploreOptions.ExploreOptions, declared.task.Form.Form, declared.task.ReportForm.ReportForm, declared.task.RunOptions.RunOptions, declared.task.Task.Task, declared.word.WordFault.WordFault}
+use Rattle.tc_command.specs.{Command.{IsGood, IsProgressOf, IsRuleOf, IsShardOf, IsStatesOf, cases_app, ttrun}, declared.{command.Subcommand.Subcommand, read.{Refused.Refused, TheConstants.{APART, HISTORY_NEEDS, SCRIPT_NEEDS}}, task.{Choice.Choice, ExploreOptions.ExploreOptions, Form.Form, ReportForm.ReportForm, RunOptions.RunOptions, Task.Task}, word.WordFault.WordFault}}
 
 -- the value comes from the arguments, and is no default
 abbrev pub is_from_words : Option ValueSource → Bool
@@ -53,10 +48,11 @@ form_of rows =
 -- the form that the options of `report` ask for, if they ask for one
 abbrev pub report_form_of : List Row → Option ReportForm
 report_form_of rows =
-    if is_given rows (codes "csv") then Some ReportForm.Csv
+    if is_given rows (codes "text") then Some ReportForm.Text
+    else (if is_given rows (codes "csv") then Some ReportForm.Csv
     else (if is_given rows (codes "junit") then Some (ReportForm.Junit (first_of (codes "suite") rows))
     else (if is_given rows (codes "html") then Some ReportForm.Html
-    else (if is_given rows (codes "summary") then Some ReportForm.Summary else None)))
+    else (if is_given rows (codes "summary") then Some ReportForm.Summary else None))))
 
 -- the first option of the pair is given, and the second is, or is not
 abbrev pub gives_pair : Bool → List Row → Text × Text → Bool
@@ -76,15 +72,11 @@ lacks_form subcommand rows = false
 abbrev pub needs : Subcommand → List (Text × Text)
 needs subcommand = map (λ p. (p.0.now, p.1.now)) (if reads_histories subcommand then HISTORY_NEEDS else SCRIPT_NEEDS)
 
--- options are given without one that they need
-abbrev pub lacks_option : Subcommand → List Row → Bool
-lacks_option subcommand rows = lacks_script subcommand rows || (lacks_form subcommand rows || list_any (gives_pair false rows) (needs subcommand))
-
--- why options are refused; none if they are taken
+-- why options are refused: two that exclude each other, or options without one that they need; none if they are taken
 abbrev pub option_faults : Subcommand × List Row → Kinds
 option_faults line =
     if list_any (gives_pair true line.1) (map (λ p. (p.0.now, p.1.now)) APART) then ArgumentConflict ∷ []
-    else (if lacks_option line.0 line.1 then MissingRequiredArgument ∷ [] else [])
+    else (if lacks_script line.0 line.1 || (lacks_form line.0 line.1 || list_any (gives_pair false line.1) (needs line.0)) then MissingRequiredArgument ∷ [] else [])
 
 -- faults are explained: if that is asked for, and at a terminal unless it is declined
 abbrev pub is_explained : Bool → List Row → Bool
@@ -96,6 +88,7 @@ pub record Chooses (rows : List Row) (c : Choice) : Type 0 where
   pub shard : IsShardOf (first_of (codes "shard") rows) c.shard
   pub failed : c.failed ≡ is_given rows (codes "failed")
   pub last : c.last ≡ is_given rows (codes "last")
+  pub long : c.long ≡ is_given rows (codes "long")
 
 -- the options choose these test cases, and ask that faults are explained, or not
 abbrev pub AsksFor : Bool → List Row → Choice → Bool → Type 0
@@ -104,14 +97,17 @@ AsksFor at_terminal rows c explains = Chooses rows c × (explains ≡ is_explain
 -- the options ask for a run so
 pub record AsksRun (at_terminal : Bool) (rows : List Row) (o : RunOptions) : Type 0 where
   pub form : o.form ≡ form_of rows
+  pub times : o.times ≡ is_given rows (codes "times")
   pub live : o.live ≡ is_given rows (codes "live")
   pub progress : o.progress ≡ is_given rows (codes "progress")
+  pub failures : IsProgressOf (first_of (codes "progress") rows) o.failures
   pub stop_on : IsRuleOf (first_of (codes "stop-on") rows) o.stop_on
   pub choice : AsksFor at_terminal rows o.choice o.explains
 
 -- the options ask for such an exploration
 pub record AsksExplore (at_terminal : Bool) (rows : List Row) (o : ExploreOptions) : Type 0 where
   pub histories : o.histories ≡ is_given rows (codes "history")
+  pub evidence : o.evidence ≡ is_given rows (codes "evidence")
   pub details : o.details ≡ is_given rows (codes "details")
   pub locals : o.locals ≡ is_given rows (codes "locals")
   pub states : IsStatesOf (first_of (codes "states") rows) o.states
@@ -135,12 +131,14 @@ abbrev pub HasGoodChoice : List Row → Type 0
 HasGoodChoice rows = IsGood IsShardOf (first_of (codes "shard") rows) × All IsPattern (option_values (codes "only") rows)
 
 -- a value of these options names nothing, and it is the first: that of --shard, then those of --only, then that of
--- --suite, and then that of --stop-on or --states
+-- --suite, and then that of --stop-on or --states, and last that of --progress
 abbrev pub HasBadWord : List Row → WordFault → Type 0
 HasBadWord rows WordFault.Shard = IsGood IsShardOf (first_of (codes "shard") rows) → ⊥
 HasBadWord rows WordFault.Only = IsGood IsShardOf (first_of (codes "shard") rows) × (All IsPattern (option_values (codes "only") rows) → ⊥)
 HasBadWord rows WordFault.Suite = HasGoodChoice rows × (IfSome (first_of (codes "suite") rows) IsName → ⊥)
 HasBadWord rows WordFault.StopOn = HasGoodChoice rows × IfSome (first_of (codes "suite") rows) IsName × (IsGood IsRuleOf (first_of (codes "stop-on") rows) → ⊥)
+HasBadWord rows WordFault.Progress =
+    HasGoodChoice rows × IfSome (first_of (codes "suite") rows) IsName × IsGood IsRuleOf (first_of (codes "stop-on") rows) × (IsGood IsProgressOf (first_of (codes "progress") rows) → ⊥)
 HasBadWord rows WordFault.States = HasGoodChoice rows × (IsGood IsStatesOf (first_of (codes "states") rows) → ⊥)
 
 -- What a line is read as, in which the command finds these faults: the task that it asks for, or clap's error. Its kind is that

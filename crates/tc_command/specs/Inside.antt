@@ -1,10 +1,8 @@
 -- What only the reading of the arguments needs: no public clause rests on a word of this file.
-use Rattle.std.specs.Prelude.{◌≡◌, ◌∷◌, [], Bool, List, codes, false}
-use Rattle.clap.specs.Words.{App, Row, Rule, Text, app_of, kind_of, new_app, with_rule, with_subcommand}
-use Rattle.clap.specs.declared.builder.command.Command.{Command}
-use Rattle.clap.specs.declared.builder.command.Command.TheViews.{out-Command}
-use Rattle.clap.specs.declared.error.kind.ErrorKind.TheVariants.{ArgumentConflict, MissingRequiredArgument}
-use Rattle.tc_command.specs.{Asked.Asks, Asked.HasBadWord, Asked.option_faults, Command.check, Command.explore, Command.flag_rule, Command.replay, Command.report, Command.run, Command.word_rule, Command.words_rule, declared.command.OptionRow.OptionRow, declared.command.Subcommand.Subcommand, declared.command.Takes.Takes, declared.read.Refused.Refused, declared.refusal.Refusal.Refusal, declared.task.Task.Task, declared.word.WordFault.WordFault}
+use Rattle.std.specs.{Prelude.{◌≡◌, ◌<◌, ◌+◌, ◌^◌, ◌∷◌, ◌++◌, [], Bool, List, codes, false, fold, ◌||◌}, Fmt.decimal, List.list_any}
+use Rattle.tc_entry.specs.Prelude.{IsShard, ShardView}
+use Rattle.clap.specs.{Words.{App, Row, Rule, Text, app_of, kind_of, new_app, with_rule, with_subcommand}, declared.{builder.command.Command.{Command, TheViews.out-Command}, error.kind.ErrorKind.TheVariants.{ArgumentConflict, MissingRequiredArgument}}}
+use Rattle.tc_command.specs.{Asked.{Asks, HasBadWord, gives_pair, lacks_form, lacks_script, needs, option_faults}, Command.{choosing, explaining, explore, flag_rule, maybe_word_rule, report, run, word_rule, words_rule}, declared.{command.{OptionRow.OptionRow, Subcommand.Subcommand}, read.Refused.Refused, refusal.Refusal.Refusal, task.Task.Task, word.WordFault.WordFault}}
 
 -- options are refused for this reason; if memory runs out, nothing is said about them
 abbrev pub IsRefusedBy : Subcommand × List Row → Refusal → Type 0
@@ -12,6 +10,10 @@ IsRefusedBy line (Refusal.Conflict first second) = option_faults line ≡ Argume
 IsRefusedBy line (Refusal.Lack lack) = option_faults line ≡ MissingRequiredArgument ∷ []
 IsRefusedBy line (Refusal.Word fault) = (option_faults line ≡ []) × HasBadWord line.1 fault
 IsRefusedBy line Refusal.NoMemory = Unit {0}
+
+-- options are given without one that they need
+abbrev pub lacks_option : Subcommand → List Row → Bool
+lacks_option subcommand rows = lacks_script subcommand rows || (lacks_form subcommand rows || list_any (gives_pair false rows) (needs subcommand))
 
 -- a value is refused for this reason, or memory ran out
 abbrev pub IsBadWord : Type 0 → WordFault → Refusal → Type 0
@@ -36,15 +38,16 @@ IsToldBy (Refusal.Lack lack) (Refused.Line e) = kind_of e ≡ MissingRequiredArg
 IsToldBy (Refusal.Word fault) (Refused.Word f) = f ≡ fault
 IsToldBy refusal refused = ⊥
 
--- an option of this name, which takes that many values
-abbrev pub rule_taking : Takes → Text → Rule
-rule_taking Takes.Nothing name = flag_rule name
-rule_taking (Takes.Word word) name = word_rule name
-rule_taking (Takes.Words word) name = words_rule name
+-- the value names this shard
+abbrev pub IsShardWord : Text → ShardView → Type 0
+IsShardWord word s = (word ≡ decimal (s.place + 1) ++ (47 ∷ decimal s.shards)) × IsShard s × (s.shards < 2 ^ 32)
 
 -- the option of a row
 abbrev pub rule_of_row : OptionRow → Rule
-rule_of_row row = rule_taking row.1 row.0.now
+rule_of_row (OptionRow.Flag name help) = flag_rule name.now
+rule_of_row (OptionRow.Word name word help) = word_rule name.now
+rule_of_row (OptionRow.MaybeWord name word help) = maybe_word_rule name.now
+rule_of_row (OptionRow.Words name word help) = words_rule name.now
 
 -- an application with the options of these rows more, in their order
 abbrev pub with_rows : List OptionRow → App → App
@@ -61,9 +64,9 @@ abbrev pub app_of_subcommand : Subcommand → App
 app_of_subcommand Subcommand.Run = run
 app_of_subcommand Subcommand.Serve = new_app (codes "serve")
 app_of_subcommand Subcommand.Explore = explore
-app_of_subcommand Subcommand.Check = check
+app_of_subcommand Subcommand.Check = fold with_rule (new_app (codes "check")) choosing
 app_of_subcommand Subcommand.Report = report
-app_of_subcommand Subcommand.Replay = replay
+app_of_subcommand Subcommand.Replay = fold with_rule (new_app (codes "replay")) explaining
 
 -- an application with these subcommands more, in their order
 abbrev pub with_each : List Subcommand → App → App

@@ -1,3 +1,2 @@
 -- What other crates cite of these definitions.
-pub use Rattle.tc_command.specs.Asked.{IsCasesReading, IsReading}
-pub use Rattle.tc_command.specs.Command.{word_fault_text}
+pub use Rattle.tc_command.specs.{Asked.{IsCasesReading, IsReading}, Command.word_fault_text}

@@ -1,6 +1,6 @@
 //! The program's command, with its subcommands and their options.
-ghost use Rattle.std.specs.Prelude.{◌≡◌, IfOk, false};
-ghost use Rattle.clap.specs.Words.{app_of, kind_of, new_app, rule_of, with_subcommand as and_subcommand};
+ghost use Rattle.std.specs.Prelude.{◌≡◌, IfOk, Some, false};
+ghost use Rattle.clap.specs.Words.{app_of, kind_of, new_app, new_rule, rule_of, with_subcommand as and_subcommand};
 ghost use Rattle.clap.specs.declared.builder.command.Command.TheViews.{out-Command};
 ghost use Rattle.tc_command.specs.{Command.run, Command.ttrun, Inside.GrowsBy, Inside.app_of_subcommand, Inside.rule_of_row, Inside.with_each, Inside.with_rows};
 
@@ -65,7 +65,8 @@ written to standard output if one of them is not legal. --only and --failed
 choose as those of check do, with --last too, but not for --html. With
 --script the input is what check --script reads, and --only and --shard choose
 as there. Test cases that are missing come last, and the lines of check
---script go to standard error.
+--script go to standard error. --long is as for check, without --text and
+--html.
 Status: 0 for none and pass, 1 for inconc and fail, 2 for error and for a test
 case that is not over, 3 if a history is not legal, for such a line, or for a
 refusal.",
@@ -88,7 +89,8 @@ const CHECK_HELP: (&str, &str) = (
 Standard input is histories or evidence: ttrun check < FILE. Standard output
 has a line for each, and none after the first that is not legal. --only, as
 for run, and --failed leave out lines of legal ones. With --last only the last
-of each name counts.
+of each name counts. With --long the input may have any length, and each
+history 16 MiB; no fault is explained.
 With --script the input is a script, and after it histories or evidence of its
 test cases: cat FILE EVIDENCE | ttrun check --script. With --only and --shard,
 as for run, it is as if the script had only these test cases. --failed is not
@@ -118,121 +120,96 @@ Status: 0 for none and pass, 1 for inconc and fail, 2 for error and for a test
 case that is not over, 3 for a refused line or a fault.",
 );
 
-// The values that an option takes, by what the help calls one: none, one, or one each time that the option is given.
+// An option: its name, what the help calls its value, if it takes one, and what the help says of it.
 #[derive(Clone, Copy)]
-pub(crate) enum Takes {
-    Nothing,
-    Word(&'static str),
-    Words(&'static str),
+pub(crate) enum OptionRow {
+    /// It takes no value.
+    Flag(&'static str, &'static str),
+    /// It takes one value.
+    Word(&'static str, &'static str, &'static str),
+    /// It takes one value or none.
+    MaybeWord(&'static str, &'static str, &'static str),
+    /// It takes one value each time that it is given.
+    Words(&'static str, &'static str, &'static str),
 }
 
-// An option: its name, the values that it takes, and what the help says of it.
-#[derive(Clone, Copy)]
-pub(crate) struct OptionRow(&'static str, Takes, &'static str);
+const EXPLAIN: OptionRow = OptionRow::Flag("explain", "says more of the fault of a refused text");
 
-const EXPLAIN: OptionRow = OptionRow(
-    "explain",
-    Takes::Nothing,
-    "says more of the fault of a refused text",
-);
-
-const NO_EXPLAIN: OptionRow = OptionRow(
+const NO_EXPLAIN: OptionRow = OptionRow::Flag(
     "no-explain",
-    Takes::Nothing,
     "says no more of it, also at a terminal",
 );
 
 // The option of a script with evidence after it.
-const FAILED: OptionRow = OptionRow(
+const FAILED: OptionRow = OptionRow::Flag(
     "failed",
-    Takes::Nothing,
-    "leaves out what passed by evidence after the script",
+    "leaves out what passed by evidence in the input",
 );
 
 // The options of histories next to their script, as `run` was given them.
-const SCRIPT: OptionRow = OptionRow(
+const SCRIPT: OptionRow = OptionRow::Flag(
     "script",
-    Takes::Nothing,
     "reads their script first, and compares them with it",
 );
 
-const SCRIPT_ONLY: OptionRow = OptionRow(
+const SCRIPT_ONLY: OptionRow = OptionRow::Words(
     "only",
-    Takes::Words("NAME"),
+    "NAME",
     "chooses this test case; may be given again, for others",
 );
 
-const SCRIPT_SHARD: OptionRow = OptionRow(
+const SCRIPT_SHARD: OptionRow = OptionRow::Word(
     "shard",
-    Takes::Word("K/N"),
+    "K/N",
     "awaits the K-th of N shards of the test cases",
 );
 
-const NOT_PASSED: OptionRow = OptionRow(
+const NOT_PASSED: OptionRow = OptionRow::Flag(
     "failed",
-    Takes::Nothing,
     "leaves out what has the verdict none or pass",
 );
 
-const LAST: OptionRow = OptionRow(
-    "last",
-    Takes::Nothing,
-    "counts only the last history of each name",
+const LAST: OptionRow = OptionRow::Flag("last", "counts only the last history of each name");
+
+const LONG: OptionRow = OptionRow::Flag(
+    "long",
+    "takes any number of histories, 16 MiB each at most",
 );
 
-const SUITE: OptionRow = OptionRow(
+const SUITE: OptionRow = OptionRow::Word(
     "suite",
-    Takes::Word("NAME"),
+    "NAME",
     "calls the JUnit suite NAME instead of ttrun",
 );
 
 /// The options of a run of test cases.
-pub(crate) const RUN_OPTIONS: [OptionRow; 11] = [
-    OptionRow("csv", Takes::Nothing, "writes the report as CSV"),
-    OptionRow(
-        "history",
-        Takes::Nothing,
-        "writes the histories of the test cases",
-    ),
-    OptionRow(
-        "evidence",
-        Takes::Nothing,
-        "writes the histories with the names of behaviours",
-    ),
-    OptionRow(
-        "junit",
-        Takes::Nothing,
-        "writes the report as a JUnit suite",
-    ),
+pub(crate) const RUN_OPTIONS: [OptionRow; 12] = [
+    OptionRow::Flag("csv", "writes the report as CSV"),
+    OptionRow::Flag("history", "writes the histories of the test cases"),
+    OptionRow::Flag("evidence", "writes histories with the names of behaviours"),
+    OptionRow::Flag("junit", "writes the report as a JUnit suite"),
     SUITE,
-    OptionRow(
-        "live",
-        Takes::Nothing,
-        "writes each test case as it finishes",
-    ),
-    OptionRow(
+    OptionRow::Flag("times", "gives the JUnit suite times"),
+    OptionRow::Flag("live", "writes each test case as it finishes"),
+    OptionRow::MaybeWord(
         "progress",
-        Takes::Nothing,
-        "reports each test case on standard error",
+        "failures",
+        "reports all, or failures, on standard error",
     ),
-    OptionRow(
+    OptionRow::Word(
         "stop-on",
-        Takes::Word("VERDICT"),
-        "stops after a test case with this verdict or worse",
+        "VERDICT",
+        "ends after a test case of this verdict or worse",
     ),
-    OptionRow(
-        "list",
-        Takes::Nothing,
-        "prints the names of the test cases, and runs none",
-    ),
-    OptionRow(
+    OptionRow::Flag("list", "prints the names of test cases, and runs none"),
+    OptionRow::Words(
         "only",
-        Takes::Words("NAME"),
-        "runs this test case; may be given again, for others",
+        "NAME",
+        "runs this test case; may be given several times",
     ),
-    OptionRow(
+    OptionRow::Word(
         "shard",
-        Takes::Word("K/N"),
+        "K/N",
         "runs the K-th of N shards of the test cases",
     ),
 ];
@@ -240,35 +217,32 @@ pub(crate) const RUN_OPTIONS: [OptionRow; 11] = [
 // The options of `run` that are of its script.
 const RUN_SCRIPT_OPTIONS: [OptionRow; 4] = [FAILED, LAST, EXPLAIN, NO_EXPLAIN];
 
-const EXPLORE_OPTIONS: [OptionRow; 10] = [
-    OptionRow(
+const EXPLORE_OPTIONS: [OptionRow; 11] = [
+    OptionRow::Flag(
         "history",
-        Takes::Nothing,
         "writes a history for each verdict that was found",
     ),
-    OptionRow(
+    OptionRow::Flag(
+        "evidence",
+        "writes these histories with the names of behaviours",
+    ),
+    OptionRow::Flag(
         "details",
-        Takes::Nothing,
         "says where schedules part and who waits for whom",
     ),
-    OptionRow(
+    OptionRow::Flag(
         "locals",
-        Takes::Nothing,
         "says which local verdicts are not always the same",
     ),
-    OptionRow(
-        "states",
-        Takes::Word("N"),
-        "looks at N states of a test case at most",
-    ),
-    OptionRow(
+    OptionRow::Word("states", "N", "looks at N states of a test case at most"),
+    OptionRow::Words(
         "only",
-        Takes::Words("NAME"),
+        "NAME",
         "explores this test case; may be given again, for others",
     ),
-    OptionRow(
+    OptionRow::Word(
         "shard",
-        Takes::Word("K/N"),
+        "K/N",
         "explores the K-th of N shards of the test cases",
     ),
     FAILED,
@@ -277,45 +251,58 @@ const EXPLORE_OPTIONS: [OptionRow; 10] = [
     NO_EXPLAIN,
 ];
 
-const CHECK_OPTIONS: [OptionRow; 7] = [
+const CHECK_OPTIONS: [OptionRow; 8] = [
     SCRIPT,
     SCRIPT_ONLY,
     SCRIPT_SHARD,
     NOT_PASSED,
     LAST,
+    LONG,
     EXPLAIN,
     NO_EXPLAIN,
 ];
 
-const REPORT_OPTIONS: [OptionRow; 12] = [
-    OptionRow("csv", Takes::Nothing, "writes a table as CSV"),
-    OptionRow("junit", Takes::Nothing, "writes a JUnit suite"),
+const REPORT_OPTIONS: [OptionRow; 14] = [
+    OptionRow::Flag("text", "writes the text report"),
+    OptionRow::Flag("csv", "writes a table as CSV"),
+    OptionRow::Flag("junit", "writes a JUnit suite"),
     SUITE,
-    OptionRow("html", Takes::Nothing, "writes a page for a browser"),
-    OptionRow(
-        "summary",
-        Takes::Nothing,
-        "writes the counts, and why test cases failed",
-    ),
+    OptionRow::Flag("html", "writes a page for a browser"),
+    OptionRow::Flag("summary", "writes the counts, and why test cases failed"),
     SCRIPT,
     SCRIPT_ONLY,
     SCRIPT_SHARD,
     NOT_PASSED,
     LAST,
+    LONG,
     EXPLAIN,
     NO_EXPLAIN,
 ];
+
+// An option of this name, of which the help says this.
+fn named<'a>(alloc: Global, name: &'a str, help: &'a str) -> Arg<'a>
+    ensures rule { rule_of result ≡ record (new_rule name.entry.now) { long = Some name.entry.now } }
+    ensures local { result.global ≡ false }
+{
+    Arg::new(alloc, name).long(name).help(help)
+}
 
 fn option_of<'a>(alloc: Global, row: OptionRow) -> Arg<'a>
     ensures rule { rule_of result ≡ rule_of_row row }
     ensures local { result.global ≡ false }
 {
-    let OptionRow(name, takes, help) = row;
-    let option = Arg::new(alloc, name).long(name).help(help);
-    match takes {
-        Takes::Nothing => option.action(ArgAction::SetTrue),
-        Takes::Word(word) => option.value_name(word).action(ArgAction::Set),
-        Takes::Words(word) => option.value_name(word).action(ArgAction::Append),
+    match row {
+        OptionRow::Flag(name, help) => named(alloc, name, help).action(ArgAction::SetTrue),
+        OptionRow::Word(name, word, help) => named(alloc, name, help)
+            .value_name(word)
+            .action(ArgAction::Set),
+        OptionRow::MaybeWord(name, word, help) => named(alloc, name, help)
+            .value_name(word)
+            .num_args(..=1)
+            .action(ArgAction::Set),
+        OptionRow::Words(name, word, help) => named(alloc, name, help)
+            .value_name(word)
+            .action(ArgAction::Append),
     }
 }
 

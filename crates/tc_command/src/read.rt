@@ -3,7 +3,7 @@ ghost use Rattle.std.specs.Prelude.{◌≡◌, ◌∷◌, [], All, IfOk, IfErr, 
 ghost use Rattle.std.specs.List.{list_any};
 ghost use Rattle.clap.specs.Words.{FailsBy, Row, app_of, fault_of, first_of, found_of, is_simple, is_simple_and_free, rows_of, subcommand_of, subcommand_rows_of};
 ghost use Rattle.tc_entry.specs.Prelude.{IsName, IsPattern};
-ghost use Rattle.tc_command.specs.{Asked.Asks, Asked.AsksRun, Asked.Chooses, Asked.IsReading, Asked.command_line_of, Asked.form_of, Asked.gives_pair, Asked.is_explained, Asked.is_given, Asked.lacks_form as spec_lacks_form, Asked.lacks_option, Asked.lacks_script as spec_lacks_script, Asked.needs as spec_needs, Asked.option_faults, Asked.option_values, Asked.report_form_of, Asked.subcommand_named as spec_named, Command.IsGood, Command.IsShardOf, Command.ttrun, Inside.IsBadWord, Inside.IsRefusedBy, Inside.IsTaken, Inside.IsWordRefused, declared.command.Subcommand.TheVariants.Check, declared.command.Subcommand.TheVariants.Explore, declared.command.Subcommand.TheVariants.Report, declared.command.Subcommand.TheVariants.Run, declared.read.Refused.Refused};
+ghost use Rattle.tc_command.specs.{Asked.Asks, Asked.AsksRun, Asked.Chooses, Asked.IsReading, Asked.command_line_of, Asked.form_of, Asked.gives_pair, Asked.is_explained, Asked.is_given, Asked.lacks_form as spec_lacks_form, Asked.lacks_script as spec_lacks_script, Asked.needs as spec_needs, Asked.option_faults, Asked.option_values, Asked.report_form_of, Asked.subcommand_named as spec_named, Command.IsGood, Command.IsShardOf, Command.ttrun, Inside.IsBadWord, Inside.IsRefusedBy, Inside.IsTaken, Inside.IsWordRefused, Inside.lacks_option, declared.command.Subcommand.TheVariants.Check, declared.command.Subcommand.TheVariants.Explore, declared.command.Subcommand.TheVariants.Report, declared.command.Subcommand.TheVariants.Run, declared.read.Refused.Refused};
 
 use crate::command::{Subcommand, command};
 use crate::refusal::{Lack, Refusal, told_of};
@@ -34,8 +34,12 @@ impl From<Error> for Refused {
 
 // Pairs of options that exclude each other. A subcommand that lacks one of them is never given both. The definition of
 // what is refused has this table and the next two from here.
-const APART: [(&str, &str); 25] = [
+const APART: [(&str, &str); 35] = [
     ("explain", "no-explain"),
+    ("text", "csv"),
+    ("text", "junit"),
+    ("text", "html"),
+    ("text", "summary"),
     ("csv", "history"),
     ("csv", "evidence"),
     ("csv", "junit"),
@@ -50,8 +54,14 @@ const APART: [(&str, &str); 25] = [
     ("html", "failed"),
     ("html", "last"),
     ("script", "failed"),
+    ("script", "long"),
+    ("text", "long"),
+    ("html", "long"),
+    ("explain", "long"),
     ("history", "details"),
     ("history", "locals"),
+    ("evidence", "details"),
+    ("evidence", "locals"),
     ("list", "csv"),
     ("list", "history"),
     ("list", "evidence"),
@@ -66,7 +76,11 @@ const APART: [(&str, &str); 25] = [
 const HISTORY_NEEDS: [(&str, &str); 1] = [("suite", "junit")];
 
 // Such pairs of all other subcommands.
-const SCRIPT_NEEDS: [(&str, &str); 2] = [("suite", "junit"), ("last", "failed")];
+const SCRIPT_NEEDS: [(&str, &str); 3] = [
+    ("suite", "junit"),
+    ("times", "junit"),
+    ("last", "failed"),
+];
 
 // Whether the arguments have this option.
 #[tactic(auto, using(crate::proofs::Options::source_of))]
@@ -140,7 +154,9 @@ fn report_form(options: &ArgMatches<'_>, suite: Option<Name>) -> Option<ReportFo
     requires { suite ≡ first_of (codes "suite") (rows_of (found_of options.now)) }
     ensures { result ≡ report_form_of (rows_of (found_of options.now)) }
 {
-    if has_option(options, "csv") {
+    if has_option(options, "text") {
+        Some(ReportForm::Text)
+    } else if has_option(options, "csv") {
         Some(ReportForm::Csv)
     } else if has_option(options, "junit") {
         Some(ReportForm::Junit(suite))
@@ -183,6 +199,7 @@ fn choice(alloc: Global, options: &ArgMatches<'_>) -> Result<Choice, Refusal>
         shard,
         failed: has_option(options, "failed"),
         last: has_option(options, "last"),
+        long: has_option(options, "long"),
     })
 }
 
@@ -198,10 +215,13 @@ fn run_options(
     let choice = choice(alloc, options)?;
     let suite = suite(options)?;
     let stop_on = word::stop_on(word_of(options, "stop-on"))?;
+    let failures = word::failures(word_of(options, "progress"))?;
     Ok(RunOptions {
         form: form(options, suite),
+        times: has_option(options, "times"),
         live: has_option(options, "live"),
         progress: has_option(options, "progress"),
+        failures,
         stop_on,
         choice,
         explains: explains(options, at_terminal),
@@ -233,6 +253,7 @@ fn explore_task(alloc: Global, options: &ArgMatches<'_>, at_terminal: bool) -> R
     let states = word::states(word_of(options, "states"))?;
     Ok(Task::Explore(ExploreOptions {
         histories: has_option(options, "history"),
+        evidence: has_option(options, "evidence"),
         details: has_option(options, "details"),
         locals: has_option(options, "locals"),
         states,
@@ -315,7 +336,8 @@ fn lacks_form(subcommand: Subcommand, options: &ArgMatches<'_>) -> bool
 {
     match subcommand {
         Subcommand::Report => {
-            !has_option(options, "csv")
+            !has_option(options, "text")
+                && !has_option(options, "csv")
                 && !has_option(options, "junit")
                 && !has_option(options, "html")
                 && !has_option(options, "summary")
@@ -408,15 +430,12 @@ fn task(alloc: Global, matches: &ArgMatches<'_>, at_terminal: bool) -> Result<Ta
     match matches.subcommand() {
         None => Ok(Task::Run(RunOptions {
             form: Form::Text,
+            times: false,
             live: false,
             progress: false,
+            failures: false,
             stop_on: None,
-            choice: Choice {
-                only: Vec::new(alloc),
-                shard: None,
-                failed: false,
-                last: false,
-            },
+            choice: Choice::all(alloc),
             explains: at_terminal,
         })),
         Some((name, options)) => {

@@ -86,7 +86,7 @@ fn lack_error(alloc: Global, command: &mut Command<'_>, lack: Lack) -> Result<Er
 {
     let text = match lack {
         Lack::Form => format!(in alloc;
-            "one of the arguments '--csv', '--junit', '--html' and '--summary' is needed"
+            "one of the arguments '--text', '--csv', '--junit', '--html' and '--summary' is needed"
         )?,
         Lack::Script => format!(in alloc;
             "the arguments '--shard', and '--only' with '--html', need '--script'"

@@ -1,4 +1,8 @@
 //! What the program can be asked for.
+ghost use Rattle.std.specs.Prelude.{[]};
+ghost use Rattle.tc_command.specs.Asked.{Chooses};
+
+use std::alloc::Global;
 use tc_entry::{Name, Pattern, Shard};
 use tc_verdict::Verdict;
 
@@ -20,6 +24,8 @@ pub enum Form {
 /// In which form histories are reported.
 #[derive(Debug, Drop, PartialEq, Eq)]
 pub enum ReportForm {
+    /// The text report.
+    Text,
     /// A table, as CSV.
     Csv,
     /// A test suite of JUnit's XML, with the name of `--suite`.
@@ -42,6 +48,23 @@ pub struct Choice {
     pub failed: bool,
     /// Whether of the blocks of one name only the last counts.
     pub last: bool,
+    /// Whether histories may be long, so that each block has a limit.
+    pub long: bool,
+}
+
+impl Choice {
+    /// All of them.
+    pub fn all(alloc: Global) -> Choice
+        ensures { Chooses [] result }
+    {
+        Choice {
+            only: Vec::new(alloc),
+            shard: None,
+            failed: false,
+            last: false,
+            long: false,
+        }
+    }
 }
 
 /// How a campaign is run.
@@ -49,10 +72,14 @@ pub struct Choice {
 pub struct RunOptions {
     /// How its results are written.
     pub form: Form,
+    /// Whether a JUnit suite has times.
+    pub times: bool,
     /// Whether each test case is written as it finishes.
     pub live: bool,
     /// Whether each test case is reported as it finishes.
     pub progress: bool,
+    /// Whether of these only the failed ones are reported.
+    pub failures: bool,
     /// The stopping rule: a test case with this verdict, or a worse one, is the last.
     pub stop_on: Option<Verdict>,
     /// Which test cases are run.
@@ -66,6 +93,8 @@ pub struct RunOptions {
 pub struct ExploreOptions {
     /// Whether the histories of the witnesses are written.
     pub histories: bool,
+    /// Whether they are written with the names of behaviours.
+    pub evidence: bool,
     /// Whether details are printed.
     pub details: bool,
     /// Whether local verdicts are printed.

@@ -2,7 +2,7 @@
 ghost use Rattle.std.specs.Prelude.{◌≡◌, ◌≤◌, All, IfOk, IfErr, IfSome, IfNone, OnOk, map, option_copied, ℕ};
 ghost use Rattle.std.specs.Fmt.{decimal};
 ghost use Rattle.tc_entry.specs.Prelude.{IsName, IsPattern, ShardView};
-ghost use Rattle.tc_command.specs.{Command.IsGood, Command.IsRuleOf, Command.IsShardOf, Command.IsShardWord, Command.IsStatesOf, Command.word_fault_text, Inside.IsBadWord};
+ghost use Rattle.tc_command.specs.{Command.IsGood, Command.IsProgressOf, Command.IsRuleOf, Command.IsShardOf, Command.IsStatesOf, Command.word_fault_text, Inside.IsBadWord, Inside.IsShardWord};
 
 use crate::refusal::Refusal;
 use std::alloc::Global;
@@ -26,6 +26,8 @@ pub enum WordFault {
     Only,
     /// `--suite`.
     Suite,
+    /// `--progress`.
+    Progress,
 }
 
 impl WordFault {
@@ -39,6 +41,7 @@ impl WordFault {
             WordFault::Shard => "--shard takes K/N, with K from 1 to N",
             WordFault::Only => "--only takes the name of one of the test cases",
             WordFault::Suite => "--suite takes 1 to 32 letters, digits or _, a letter first",
+            WordFault::Progress => "--progress takes failures, or no value",
         }
     }
 }
@@ -81,6 +84,18 @@ pub(crate) fn stop_on(word: Option<&str>) -> Result<Option<Verdict>, WordFault>
             None => Err(WordFault::StopOn),
         },
         None => Ok(None),
+    }
+}
+
+/// Whether `--progress` has the value `failures`.
+pub(crate) fn failures(word: Option<&str>) -> Result<bool, WordFault>
+    ensures taken { IfOk result (IsProgressOf (option_copied word.entry)) }
+    ensures refused { IfErr result (λ f. (f ≡ WordFault.Progress) × (IsGood IsProgressOf (option_copied word.entry) → ⊥)) }
+{
+    match word {
+        Some("failures") => Ok(true),
+        Some(_) => Err(WordFault::Progress),
+        None => Ok(false),
     }
 }
 

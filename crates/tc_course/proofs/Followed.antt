@@ -1,10 +1,8 @@
 -- Following a history: each entry is the next turn of its caller, or the history is no course.
-use Rattle.std.proofs.Common.{ℕ, ◌≡◌, ◌↔◌, ◌∙◌, ◌+◌, ◌<◌, ◌≤◌, Bool, true, false, Some, None, List, [], ◌∷◌, ◌++◌, length, take, drop, get_or, reverse, refl, sym, ap, subst, arith}
-use Rattle.std.proofs.lemmas.List.{reverse-append, take_all, take-append-drop}
+use Rattle.std.proofs.{Common.{ℕ, ◌≡◌, ◌↔◌, ◌∙◌, ◌+◌, ◌<◌, ◌≤◌, Bool, true, false, Some, None, List, [], ◌∷◌, ◌++◌, length, take, drop, get_or, reverse, refl, sym, ap, subst, arith}, lemmas.List.{reverse-append, take_all, take-append-drop}}
 use Rattle.tc_rules.specs.Prelude.{Verdict, Entry, Op, answer, Case, past_of, overall}
 use Rattle.tc_step.specs.Prelude.{ScriptView}
-use Rattle.tc_course.specs.{Course.CannotGo, Course.IsComplete, Course.IsCourse, Course.IsNext, Course.IsOn, Course.IsTurn, Course.turn, Witnesses.IsWitness}
-use Rattle.tc_course.proofs.Lemmas.{below_more, course_legal, reverse_more, has_turn, run_in_range, stand_comp}
+use Rattle.tc_course.{specs.{Course.{CannotGo, IsComplete, IsCourse, IsNext, IsOn, IsTurn, turn}, Witnesses.IsWitness}, proofs.Lemmas.{below_more, course_legal, reverse_more, has_turn, run_in_range, stand_comp}}
 
 -- ---- one entry
 

@@ -1,13 +1,8 @@
 -- What is known of a run along a course, turns of runs, a course as a history, and what is made of each number.
-use Rattle.std.proofs.Common.{ℕ, zero, suc, ◌≡◌, ◌<◌, ◌≤◌, ◌==◌, if◌then◌else◌, Bool, true, false, Option, Some, None, is_some, List, [], ◌∷◌, ◌++◌, slice_get, refl, ap, ◌∙◌, arith, length, sym, subst, ◌+◌, take, get_or, reverse, nat_lt}
-use Rattle.std.specs.{List.flat_map, List.range_with_len, Option.unwrap_or}
-use Rattle.std.proofs.lemmas.{Bool.Decides.nat_tests, List.flat_map_more, List.reverse-append, List.take_more}
-use Rattle.tc_rules.specs.Prelude.{Comp, Entry, Op, Reply, is_ok, is_wake, comp_of, started_on, starts_run, first_some, waiting, parks, awaited, IsLegal, Run, answer, Case, past_of}
-use Rattle.tc_step.specs.declared.step.{Status.Status, Step.Step}
-use Rattle.tc_step.specs.Prelude.{ScriptView}
-use Rattle.tc_rules.specs.declared.awaited.Awaited.{Awaited}
-use Rattle.tc_rules.proofs.Lemmas.{Deciding.equal_if, Deciding.self_equal, Sound.runs_on}
-use Rattle.tc_course.specs.{Course.CannotGo, Course.CourseState, Course.IsCourse, Course.IsOn, Course.IsTurn, Course.after_other_by, Course.after_own, Course.entry_made, Course.is_idle, Course.stand, Course.steps_of, Course.turn, Course.turn_on, Inside.call_of, Inside.wake_for, Inside.wake_if}
+use Rattle.std.{proofs.{Common.{ℕ, zero, suc, ◌≡◌, ◌<◌, ◌≤◌, ◌==◌, if◌then◌else◌, Bool, true, false, Option, Some, None, is_some, List, [], ◌∷◌, ◌++◌, slice_get, refl, ap, ◌∙◌, arith, length, sym, subst, ◌+◌, take, get_or, reverse, nat_lt}, lemmas.{Bool.Decides.nat_tests, List.{flat_map_more, reverse-append, take_more}}}, specs.{List.{flat_map, range_with_len}, Option.unwrap_or}}
+use Rattle.tc_rules.{specs.{Prelude.{Comp, Entry, Op, Reply, is_ok, is_wake, comp_of, started_on, starts_run, first_some, waiting, parks, awaited, IsLegal, Run, answer, Case, past_of, entry_made}, declared.awaited.Awaited.Awaited}, proofs.Lemmas.{Deciding.{equal_if, self_equal}, Sound.runs_on}}
+use Rattle.tc_step.specs.{declared.step.{Status.Status, Step.Step}, Prelude.ScriptView}
+use Rattle.tc_course.specs.{Course.{CannotGo, CourseState, IsCourse, IsOn, IsTurn, after_other_by, after_own, stand, steps_of, turn, turn_on}, Inside.{is_idle, call_of, wake_for, wake_if}}
 
 -- ---- turns
 
@@ -199,13 +194,7 @@ pub ruleset turn_rules = (turn_taken, no_turn, idle_turn, on_with, on_opening)
 -- what is no Wake is no idle one
 pub other_not_idle : (op : Op) (r : Reply) → is_wake op ≡ false → is_idle op r ≡ false
 other_not_idle op Reply.Parked h = h
-other_not_idle op (Reply.Made c) h = refl
-other_not_idle op Reply.Ok h = refl
-other_not_idle op (Reply.Answer a) h = refl
-other_not_idle op (Reply.Local v) h = refl
-other_not_idle op Reply.Matched h = refl
-other_not_idle op Reply.Ended h = refl
-other_not_idle op (Reply.Fault f) h = refl
+other_not_idle op _ h = refl
 
 pub course_legal : (scripts : List ScriptView) (past : List Entry) → IsCourse scripts past → IsLegal (length scripts) past
 course_legal scripts [] h = tt

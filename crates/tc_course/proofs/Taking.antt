@@ -1,8 +1,7 @@
 -- What one more entry says of the runs: something of its caller, and of the run that it starts.
 use Rattle.std.proofs.Common.{ℕ, ◌≡◌, ◌==◌, if◌then◌else◌, Bool, true, false, Option, Some, None, List, length, slice_index_or, refl, ap, sym, ◌∙◌, arith}
-use Rattle.tc_rules.specs.Prelude.{Run, Comp, Entry, Op, is_ok, started_on, starts_run}
-use Rattle.tc_rules.proofs.Lemmas.Deciding.{self_equal, equal_if, if_same}
-use Rattle.tc_course.specs.{Course.CourseState, Course.after_other_by, Course.next, Inside.TakesIn, Inside.TakesInFor, Inside.next_for}
+use Rattle.tc_rules.{specs.Prelude.{Run, Comp, Entry, Op, is_ok, started_on, starts_run}, proofs.Lemmas.Deciding.{self_equal, equal_if, if_same}}
+use Rattle.tc_course.specs.{Course.{CourseState, after_other_by, next}, Inside.{TakesIn, TakesInFor, next_for}}
 
 untouched_by : (o : Option Comp) (e : Entry) (b : ℕ) (s : CourseState) → started_on e b ≡ None → after_other_by o e b s ≡ s
 untouched_by (Some c) e b s h = refl

@@ -1,10 +1,8 @@
 -- Courses of a test case whose behaviours are scripts: what each run has called, and what it calls next. As in the
 -- component table's definitions `past` lists entries, the newest first, and runs are numbers.
-use Rattle.std.specs.Prelude.{ℕ, ◌≡◌, ◌==◌, ◌<◌, ◌+◌, ◌++◌, ◌&&◌, ◌||◌, if◌then◌else◌, Bool, true, false, Option, Some, None, is_some, List, [], ◌∷◌, length, slice_get}
-use Rattle.std.specs.Option.{option_map_or, option_to_list, unwrap_or}
-use Rattle.tc_rules.specs.Prelude.{Comp, Entry, Op, Reply, created, started_on, ends_pass, answer, is_wake, Run, Case, past_of}
-use Rattle.tc_step.specs.declared.step.Step.{Step}
-use Rattle.tc_step.specs.Prelude.{operation, ScriptView}
+use Rattle.std.specs.{Prelude.{ℕ, ◌≡◌, ◌==◌, ◌<◌, ◌+◌, ◌++◌, ◌&&◌, ◌||◌, if◌then◌else◌, Bool, false, Option, Some, None, is_some, List, [], ◌∷◌, length, slice_get, not}, Option.{option_map_or, option_to_list, unwrap_or, option_map}}
+use Rattle.tc_rules.specs.Prelude.{Comp, Entry, Op, Reply, created, started_on, ends_pass, answer, is_wake, Run, Case, past_of, entry_made, wake_op, parks, start, is_ended, is_parked}
+use Rattle.tc_step.specs.{declared.step.Step.Step, Prelude.{operation, ScriptView}}
 
 -- ---- what is known of one run
 
@@ -21,17 +19,6 @@ pub record CourseState : Type 0 where
 abbrev pub opening_state : ℕ → CourseState
 opening_state b = record { comp = if b == 0 then Some (record { 0 = 0 }) else None; bound = []; called = 0; left = false; wake = None }
 
--- the Wake to come after a call with this reply: after a wait that was parked, and after a Wake that was parked again
-abbrev pub wake_after : Reply → Op → Option Op
-wake_after Reply.Parked (Op.Wait killed target) = Some (Op.Wake killed target)
-wake_after Reply.Parked (Op.Wake killed target) = Some (Op.Wake killed target)
-wake_after _ _ = None
-
--- the arguments with which this operation starts run b
-abbrev pub arguments : Op → ℕ → List Comp
-arguments (Op.Start c run args) b = if run.0 == b then args else []
-arguments _ b = []
-
 -- after an entry of its own
 abbrev pub after_own : Entry → CourseState → CourseState
 after_own e s = record {
@@ -39,12 +26,12 @@ after_own e s = record {
   bound = s.bound ++ option_to_list (created e.op e.reply);
   called = if is_wake e.op then s.called else s.called + 1;
   left = s.left || option_map_or (λ own. ends_pass own e) s.comp false;
-  wake = wake_after e.reply e.op;
+  wake = option_map wake_op (parks e.op e.reply);
 }
 
--- after an entry of another run: the first Start of run b that is replied Ok starts it
+-- after an entry of another run: the first Start of run b that is replied Ok starts it, with its arguments bound
 abbrev pub after_other_by : Option Comp → Entry → ℕ → CourseState → CourseState
-after_other_by own e b s = if is_some own then s else option_map_or (λ c. record s { comp = Some c; bound = arguments e.op b }) (started_on e b) s
+after_other_by own e b s = if is_some own then s else option_map_or (λ c. record s { comp = Some c; bound = option_map_or (λ t. t.2) (start e.op) [] }) (started_on e b) s
 
 -- after one more entry
 abbrev pub next : Entry → ℕ → CourseState → CourseState
@@ -57,9 +44,7 @@ stand (e ∷ past) b = next e b (stand past b)
 
 -- after this reply the caller has continued, or the case is over
 abbrev pub goes_on : Reply → Bool
-goes_on Reply.Ended = false
-goes_on Reply.Parked = false
-goes_on _ = true
+goes_on reply = not (is_ended reply || is_parked reply)
 
 -- how many calls run b has carried out: its steps, and its end, without calls that are answered ended, and waits that
 -- are not over
@@ -84,16 +69,11 @@ turn scripts past b = let s = stand past b in turn_on s.comp (steps_of scripts b
 
 -- ---- courses
 
--- a Wake that is parked again; none is recorded
-abbrev pub is_idle : Op → Reply → Bool
-is_idle op Reply.Parked = is_wake op
-is_idle op _ = false
-
--- the entry is what its caller calls next, with the component table's reply
+-- the entry is what its caller calls next, with the component table's reply; a Wake that is parked again is not recorded
 pub record IsTurn (scripts : List ScriptView) (past : List Entry) (e : Entry) : Type 0 where
   pub turn : turn scripts past e.caller.0 ≡ Some e.op
   pub reply : e.reply ≡ answer (length scripts) past e.caller.0 e.op
-  pub not_idle : is_idle e.op e.reply ≡ false
+  pub not_idle : (is_parked e.reply && is_wake e.op) ≡ false
 
 -- a course of the test case whose run b has the b-th of these scripts
 abbrev pub IsCourse : List ScriptView → List Entry → Type 0
@@ -103,10 +83,6 @@ IsCourse scripts (e ∷ past) = IsTurn scripts past e × IsCourse scripts past
 -- it is complete: no run has a call left
 abbrev pub IsComplete : List ScriptView → List Entry → Type 0
 IsComplete scripts past = (b : ℕ) → b < length scripts → turn scripts past b ≡ None
-
--- the entry of this call, with the component table's reply
-abbrev pub entry_made : ℕ → List Entry → Run → Op → Entry
-entry_made n past run op = record { caller = run; op = op; reply = answer n past run.0 op }
 
 -- a case that is at a course of these scripts
 pub record IsOn (scripts : List ScriptView) (t : Case) : Type 0 where

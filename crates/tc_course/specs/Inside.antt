@@ -1,18 +1,20 @@
 -- What only the code needs: parts of what is known of a run, and what is kept of the runs of a course.
-use Rattle.std.specs.Prelude.{ℕ, ◌+◌, ◌&&◌, if◌then◌else◌, Bool, false, Option, List, ◌≡◌, ◌==◌, ◌<◌, length, slice_index_or}
-use Rattle.std.specs.Option.{option_map_or}
-use Rattle.tc_rules.specs.Prelude.{Comp, Entry, Op, Reply, ends_pass, Case, past_of}
-use Rattle.tc_step.specs.declared.step.Step.{Step}
-use Rattle.tc_step.specs.Prelude.{operation}
-use Rattle.tc_course.specs.Course.{goes_on, wake_after, CourseState, carried_on, next, stand}
+use Rattle.std.specs.{Prelude.{ℕ, ◌+◌, ◌&&◌, if◌then◌else◌, Bool, false, Option, List, ◌≡◌, ◌==◌, ◌<◌, length, slice_index_or}, Option.{option_map_or, option_map}}
+use Rattle.tc_rules.specs.Prelude.{Comp, Entry, Op, Reply, ends_pass, Case, past_of, wake_op, parks, is_wake, is_parked}
+use Rattle.tc_step.specs.{declared.step.Step.Step, Prelude.operation}
+use Rattle.tc_course.specs.Course.{goes_on, CourseState, carried_on, next, stand}
+
+-- a Wake that is parked again; none is recorded
+abbrev pub is_idle : Op → Reply → Bool
+is_idle op reply = is_parked reply && is_wake op
 
 -- the Wake that follows a parked call
 abbrev pub wake_for : Op → Option Op
-wake_for op = wake_after Reply.Parked op
+wake_for op = option_map wake_op (parks op Reply.Parked)
 
 -- the Wake to come after this call
 abbrev pub wake_if : Op → Reply → Option Op
-wake_if op reply = wake_after reply op
+wake_if op reply = option_map wake_op (parks op reply)
 
 -- the entry, by a run on this component, ends its pass
 abbrev pub ends : Option Comp → Entry → Bool

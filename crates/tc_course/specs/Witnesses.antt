@@ -3,7 +3,7 @@ use Rattle.std.specs.Prelude.{ℕ, ◌≡◌, ◌==◌, ◌+◌, ◌*◌, Bool, 
 use Rattle.std.specs.List.{list_any}
 use Rattle.tc_rules.specs.Prelude.{Verdict, level_of, Entry, IsLegal, overall}
 use Rattle.tc_step.specs.Prelude.{ScriptView}
-use Rattle.tc_course.specs.{Course.IsComplete, Course.IsCourse, declared.witness.Witness.Witness}
+use Rattle.tc_course.specs.{Course.{IsComplete, IsCourse}, declared.witness.Witness.Witness}
 
 -- this list, the oldest entry first, is a complete course that ends with this verdict
 pub record IsWitness (scripts : List ScriptView) (history : List Entry) (v : Verdict) : Type 0 where

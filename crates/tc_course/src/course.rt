@@ -1,13 +1,13 @@
 //! A course: what is known of a case after some turns.
 ghost use Rattle.std.specs.Prelude.{◌≡◌, ◌≤◌, ◌<◌, ◌∷◌, ℕ, [], IfOk, IfSome, OnOk, Some, length, slice_index_or};
 ghost use Rattle.tc_entry.specs.declared.limits.TheConstants.{BEHAVIOURS};
-ghost use Rattle.tc_rules.specs.Prelude.{past_of};
+ghost use Rattle.tc_rules.specs.Prelude.{past_of, entry_made};
 ghost use Rattle.tc_rules.specs.Answers as answers;
 ghost use Rattle.tc_rules.specs.Local as verdicts;
 ghost use Rattle.tc_rules.specs.History as history;
 ghost use Rattle.tc_rules.specs.Phases as phases;
 ghost use Rattle.tc_rules.specs.Faults as faults;
-ghost use Rattle.tc_course.specs.{Course.entry_made, Inside.CountsOn, Inside.TakesIn, Inside.TakesInFor};
+ghost use Rattle.tc_course.specs.Inside.{CountsOn, TakesIn, TakesInFor};
 ghost use Rattle.tc_course.specs.Course as courses;
 
 use crate::entries::has_gone_on;

@@ -1,7 +1,8 @@
 //! What one entry says of its caller and of the run that it starts.
-ghost use Rattle.std.specs.Prelude.{◌≡◌};
+ghost use Rattle.std.specs.{Prelude.{◌≡◌, []}, Option.option_map_or};
+ghost use Rattle.tc_rules.specs.Prelude.{start};
 ghost use Rattle.tc_entry.specs.Reply as replies;
-ghost use Rattle.tc_course.specs.Inside.{ends as own_ends};
+ghost use Rattle.tc_course.specs.Inside.{ends as own_ends, wake_if};
 ghost use Rattle.tc_course.specs.Course as courses;
 
 use tc_entry::{Comp, Entry, Op, Reply};
@@ -26,7 +27,7 @@ pub(crate) fn is_wake(op: &Op) -> bool
 
 /// The Wake to come after this entry.
 pub(crate) fn wake_after(entry: &Entry) -> Option<Op>
-    ensures { result ≡ courses.wake_after entry.now.reply entry.now.op }
+    ensures { result ≡ wake_if entry.now.op entry.now.reply }
 {
     match (entry.reply, &entry.op) {
         (Reply::Parked, Op::Wait { killed, target } | Op::Wake { killed, target }) => {
@@ -49,12 +50,12 @@ pub fn has_gone_on(reply: Reply) -> bool
     }
 }
 
-/// The arguments with which this operation starts the run.
-pub(crate) fn arguments(op: &Op, run: u16) -> &[Comp]
-    ensures { result.now ≡ courses.arguments op.now run }
+/// The arguments with which this operation starts a run, if it starts one.
+pub(crate) fn arguments(op: &Op) -> &[Comp]
+    ensures { result.now ≡ option_map_or (λ t. t.2) (start op.now) [] }
 {
     match op {
-        Op::Start { run: b, args, .. } => { if b.0 == run { args.as_slice() } else { &[] } }
+        Op::Start { args, .. } => args.as_slice(),
         _ => &[],
     }
 }

@@ -2,8 +2,7 @@
 ghost use Rattle.std.specs.Prelude.{◌≡◌, ◌<◌, IfNone, IfSome, length};
 ghost use Rattle.tc_rules.specs.Prelude.{past_of};
 ghost use Rattle.tc_rules.specs.Answers as answers;
-ghost use Rattle.tc_course.specs.Course.{CannotGo, IsNext, IsOn};
-ghost use Rattle.tc_course.specs.Course as courses;
+ghost use Rattle.tc_course.specs.{Course.{CannotGo, IsNext, IsOn}, Inside.is_idle as spec_idle};
 
 use crate::course::Course;
 use crate::entries::is_wake;
@@ -14,7 +13,7 @@ use tc_verdict::Run;
 // Whether the call would be a Wake that is parked again.
 #[tactic(auto, using(crate::proofs::Lemmas::other_not_idle))]
 fn is_idle(course: &Course, run: Run, op: &Op) -> bool
-    ensures { result ≡ courses.is_idle op.now (answers.answer course.now.behaviours (past_of course.now) run.0 op.now) }
+    ensures { result ≡ spec_idle op.now (answers.answer course.now.behaviours (past_of course.now) run.0 op.now) }
 {
     if !is_wake(op) {
         return false;

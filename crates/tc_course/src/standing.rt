@@ -85,7 +85,7 @@ impl Standing {
         if let Some(comp) = started_on(entry, run) {
             self.comp = Some(comp);
             self.bound.clear();
-            self.bound.extend_from_slice(arguments(&entry.op, run))?;
+            self.bound.extend_from_slice(arguments(&entry.op))?;
         }
         Ok(())
     }

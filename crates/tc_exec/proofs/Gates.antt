@@ -1,9 +1,7 @@
 -- The questions to a gate, one after another.
-use Rattle.std.proofs.Common.{ℕ, suc, ◌≡◌, ◌<◌, ◌+◌, ◌-◌, ◌∙◌, Bool, true, subst, List, ◌∷◌, ◌++◌, length, get_or, map, sym, ap, arith}
-use Rattle.std.proofs.Math.Seq.{get_or-append_seam}
-use Rattle.std.proofs.lemmas.List.{length-append, length-map}
+use Rattle.std.proofs.{Common.{ℕ, suc, ◌≡◌, ◌<◌, ◌+◌, ◌-◌, ◌∙◌, Bool, true, subst, List, ◌∷◌, ◌++◌, length, get_or, map, sym, ap, arith}, Math.Seq.get_or-append_seam, lemmas.List.{length-append, length-map}}
 use Rattle.tc_rules.specs.Prelude.{Run}
-use Rattle.tc_exec.specs.{Gates.IsPassed, Gates.IsStopped, Inside.AreAbove}
+use Rattle.tc_exec.specs.{Gates.{IsPassed, IsStopped}, Inside.AreAbove}
 
 -- the run after those of the workers that were made
 pub next_above : {W : Type 0} (run : W → Run) (ws : List W) (rest left all : List Run) (next : Run) → AreAbove all → map run ws ++ rest ≡ all → rest ≡ next ∷ left →

@@ -1,12 +1,8 @@
 -- What the logs of a closed case say of the starts of their runs.
-use Rattle.std.proofs.Common.{ℕ, zero, suc, ◌≡◌, ◌<◌, ◌==◌, if◌then◌else◌, option_map, Bool, true, false, Option, Some, None, List, [], All, reverse, refl, sym, ◌∙◌, arith}
-use Rattle.std.proofs.lemmas.{Bool.Decides.nat_tests, List.Elements.All-append, List.Elements.All-cons, List.Elements.All-nil}
-use Rattle.tc_rules.specs.Prelude.{Comp, Entry, comp_of, part, log_if, logs_below, IsOneHistory}
-use Rattle.tc_rules.specs.declared.closed.Closed.{Closed}
-use Rattle.tc_book.specs.Inside.{comp_by}
-use Rattle.tc_book.specs.Prelude.{start_of}
-use Rattle.tc_book.proofs.Lemmas.PartOf.{comp_is}
-use Rattle.tc_exec.specs.Case.{WasStartedIn, IsCaseReport}
+use Rattle.std.proofs.{Common.{ℕ, zero, suc, ◌≡◌, ◌<◌, ◌==◌, if◌then◌else◌, option_map, Bool, true, false, Option, Some, None, List, [], All, reverse, refl, sym, ◌∙◌, arith}, lemmas.{Bool.Decides.nat_tests, List.Elements.{All-append, All-cons, All-nil}}}
+use Rattle.tc_rules.specs.{Prelude.{Comp, Entry, comp_of, part, log_if, logs_below, IsOneHistory}, declared.{closed.Closed.Closed, run_log.RunLog.RunLog}}
+use Rattle.tc_book.{specs.{Inside.comp_by, Prelude.start_of}, proofs.Lemmas.PartOf.comp_is}
+use Rattle.tc_exec.specs.Case.{IsCaseReport}
 
 -- what a run above 0 was started with, by its component
 by_start : (b : ℕ) (c : Comp) (start : Option (Comp × List Comp)) → 0 < b → Some c ≡ comp_by b start → (args : List Comp) × (start ≡ Some (c, args))
@@ -18,6 +14,10 @@ by_start b c start above same =
     by_test true o k e = absurd cc
     by_test false None k e = absurd cc
     by_test false (Some s) k e = let q : c ≡ s.0 = cc in (s.1, rw q refl)
+
+-- a Start of this log's run, on the log's component, was replied Ok in the history
+abbrev pub WasStartedIn : List Entry → RunLog → Type 0
+WasStartedIn history log = 0 < log.run.0 → (args : List Comp) × (start_of (reverse history) log.run.0 ≡ Some (log.comp, args))
 
 started_log : (history : List Entry) (b : ℕ) (o : Option Comp) → comp_of (reverse history) b ≡ o → All (WasStartedIn history) (log_if o history b)
 started_log history b None is = All-nil (WasStartedIn history)

@@ -1,14 +1,8 @@
 -- What the report of a case says.
-use Rattle.std.specs.Prelude.{ℕ, ◌≡◌, ◌≢◌, ◌<◌, ◌⊎◌, Some, None, List, length, reverse, All, slice_index_or}
-use Rattle.tc_rules.specs.Prelude.{Comp, Entry, comp_of, IsOneHistory}
-use Rattle.tc_rules.specs.declared.{closed.Closed.Closed, run_log.RunLog.RunLog}
+use Rattle.std.specs.Prelude.{ℕ, ◌≡◌, ◌≢◌, ◌<◌, ◌⊎◌, None, List, length, reverse, All, slice_index_or, Some}
+use Rattle.tc_rules.specs.{Prelude.{Entry, comp_of, IsOneHistory, Comp}, declared.{closed.Closed.Closed, run_log.RunLog.RunLog}}
 use Rattle.tc_book.specs.Prelude.{IsOneEach, IsWhole, PassState, LeftState, start_of}
-use Rattle.tc_exec.specs.Workers.{IsLeftBy, WasCalledFor, WasCalled, WasStarted}
-use Rattle.tc_exec.specs.declared.{job.Back.Back, job.Ending.Ending}
-
--- a Start of this log's run, on the log's component, was replied Ok in the history
-abbrev pub WasStartedIn : List Entry → RunLog → Type 0
-WasStartedIn history log = 0 < log.run.0 → (args : List Comp) × (start_of (reverse history) log.run.0 ≡ Some (log.comp, args))
+use Rattle.tc_exec.specs.{Workers.{IsLeftBy, WasCalled}, declared.job.{Back.Back, Ending.Ending}}
 
 -- The report of a case of n behaviours. It has one history of one thread, in which each reply is the component table's
 -- at that point, and the logs are the parts of this history. Once an entry has ended the case no component is alive.
@@ -19,13 +13,14 @@ pub record IsCaseReport (n : ℕ) (c : Closed) : Type 0 where
   pub one_history : IsOneHistory c
   -- as many behaviours as jobs
   pub behaviours : c.behaviours ≡ n
-  -- each log is of a run that was started
-  pub started : All (WasStartedIn c.history) c.logs
+  -- each log is of a run that was started: a Start of it, on the log's component, was replied Ok in the history
+  pub started : All (λ l. 0 < l.run.0 → (args : List Comp) × (start_of (reverse c.history) l.run.0 ≡ Some (l.comp, args))) c.logs
 
 -- The behaviours are those of the runs, in the order of the runs' numbers: each of which the run was started was called,
 -- with a new pass of that run.
 abbrev pub AreCalled : {B : Type 0} → (B → PassState → Back → Type 0) → List B → Closed → Type 0
-AreCalled outcome jobs c = (k : ℕ) (b : _) → k < length jobs → comp_of (reverse c.history) k ≢ None → WasCalledFor (record { 0 = k }) (outcome (slice_index_or jobs k b))
+AreCalled outcome jobs c = (k : ℕ) (b : _) → k < length jobs → comp_of (reverse c.history) k ≢ None
+    → (l : LeftState) × WasCalled (outcome (slice_index_or jobs k b)) (record { 0 = k }) l
 
 -- What was handed back of a case, whole or not. Each behaviour was called with a new pass of its run, did not run out
 -- of memory, and the pass that it handed back has left; or its run was never started.
@@ -48,14 +43,17 @@ pub record IsMadeOf {B : Type 0} (outcome : B → PassState → Back → Type 0)
 -- memory ran out. Or what was handed back is one of each run, and memory ran out as the case was closed.
 abbrev pub IsOutOfMemory : {B : Type 0} → (B → PassState → Back → Type 0) → List B → Type 0
 IsOutOfMemory outcome jobs =
-    ((k : ℕ) × (k < length jobs) × ((b : _) → WasCalledFor (record { 0 = k }) (λ p back. outcome (slice_index_or jobs k b) p back × (back.ending ≡ Ending.Starved)))) ⊎ ((h : IsHandedBack outcome jobs) × IsOneEach (length jobs) h.lefts)
+    ((k : ℕ) × (k < length jobs)
+    × ((b : _) → (l : LeftState) × (w : WasCalled (outcome (slice_index_or jobs k b)) (record { 0 = k }) l) × (w.handed.ending ≡ Ending.Starved)))
+    ⊎ ((h : IsHandedBack outcome jobs) × IsOneEach (length jobs) h.lefts)
 
 -- The log is that of a pass of its run, which was new when the behaviour was called with it, on the component and with
 -- the arguments of the run's Start. The behaviour did not run out of memory. The log is what the pass that it handed
 -- back has logged, and then a Finish if that pass had not ended.
 pub record IsLogBy (outcome : PassState → Back → Type 0) (history : List Entry) (l : RunLog) : Type 0 where
   pub left : LeftState
-  pub made : WasStarted l.run (λ p. WasCalled (outcome p) (record { left = left; ending = Ending.Returned }))
+  pub called : WasCalled outcome l.run left
+  pub returned : called.handed.ending ≡ Ending.Returned
   pub entries : l.entries ≡ left.log
   pub started : 0 < l.run.0 → left.started ≡ start_of (reverse history) l.run.0
 

@@ -1,10 +1,27 @@
 -- What the functions inside of a case say, which no public clause names.
-use Rattle.std.specs.List.{AllZip}
-use Rattle.std.specs.Prelude.{ℕ, ◌≡◌, ◌≢◌, ◌<◌, ◌+◌, ◌++◌, ◌⊎◌, Bool, true, false, None, List, [], ◌∷◌, Result, Ok, Err, length, map, slice_index_or}
-use Rattle.tc_rules.specs.Prelude.{Run, of_close}
-use Rattle.tc_rules.specs.declared.{closed.CloseFault.CloseFault, closed.Closed.Closed, refusal.CaseError.CaseError}
+use Rattle.std.specs.{List.AllZip, Prelude.{ℕ, ◌≡◌, ◌≢◌, ◌<◌, ◌+◌, ◌++◌, ◌⊎◌, Bool, true, false, None, List, [], ◌∷◌, Result, Ok, Err, length, map, slice_index_or}}
+use Rattle.tc_rules.specs.{Prelude.{Run, of_close}, declared.{closed.{CloseFault.CloseFault, Closed.Closed}, refusal.CaseError.CaseError}}
 use Rattle.tc_book.specs.Prelude.{PassState, LeftState}
-use Rattle.tc_exec.specs.{Workers.IsLeftBy, Workers.WasCalledFor, declared.gathered.Gathered.Gathered, declared.job.Back.Back, declared.job.Ending.Ending, declared.worker.Worker.Worker}
+use Rattle.tc_exec.specs.{Workers.{HasLeft, IsLeftBy, WasCalled, opening_pass}, declared.{gathered.Gathered.Gathered, handed.Handed.Handed, job.{Back.Back, Ending.Ending}, worker.Worker.Worker}}
+
+-- a behaviour was called, with this outcome, and the pass that it handed back has left
+pub record HasActed (outcome : Back → Type 0) (h : Handed) : Type 0 where
+  pub back : Back
+  pub outcome_of : outcome back
+  pub left : HasLeft back.pass h.left
+  pub ending : h.ending ≡ back.ending
+
+-- a behaviour was called with a new pass of this run, which of run 0 is the opening's, and this holds of the call
+pub record WasStarted (run : Run) (call : PassState → Type 0) : Type 0 where
+  pub pass : PassState
+  pub own : pass.run ≡ run
+  pub new : pass.log ≡ []
+  pub main : run.0 ≡ 0 → pass ≡ opening_pass
+  pub called : call pass
+
+-- what was handed back is that of a run that was never started, or this came of the call of its behaviour
+abbrev pub IsWorked : Run → (PassState → Back → Type 0) → Handed → Type 0
+IsWorked run outcome h = (h ≡ record { left = record { run = run; log = []; started = None }; ending = Ending.Returned }) ⊎ WasStarted run (λ p. HasActed (outcome p) h)
 
 -- what the close of a case is answered by: the report as it is, or the refusal
 abbrev pub handed_on : Result Closed CloseFault → Result Closed CaseError
@@ -45,7 +62,7 @@ module _ {B : Type 0} (outcome : B → PassState → Back → Type 0) where
 
   -- the behaviour of this run was called, and memory ran out in it
   abbrev pub HasStarved : Run → B → Type 0
-  HasStarved run b = WasCalledFor run (λ p back. outcome b p back × (back.ending ≡ Ending.Starved))
+  HasStarved run b = (l : LeftState) × (w : WasCalled (outcome b) run l) × (w.handed.ending ≡ Ending.Starved)
 
   -- memory ran out in the behaviour of one of these runs
   abbrev pub IsOneStarved : List Run → List B → Type 0

@@ -1,3 +1,2 @@
 -- What other crates cite of these definitions.
-pub use Rattle.tc_exec.specs.Case.{AreCalled, AreLogsBy, IsCaseReport, IsHandedBack, IsLogBy, IsMadeOf}
-pub use Rattle.tc_exec.specs.Workers.{HasLeft, IsLeftBy, WasCalled, WasStarted, opening_pass}
+pub use Rattle.tc_exec.specs.{Case.{AreCalled, AreLogsBy, IsCaseReport, IsHandedBack, IsLogBy, IsMadeOf}, Workers.{HasLeft, IsLeftBy, WasCalled, opening_pass}}

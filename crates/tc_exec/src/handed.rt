@@ -1,6 +1,6 @@
 //! What a run hands back to the executor.
 ghost use Rattle.std.specs.Prelude.{◌≡◌};
-ghost use Rattle.tc_exec.specs.Workers.{HasLeft, WasCalled, IsWorked};
+ghost use Rattle.tc_exec.specs.{Inside.{HasActed, IsWorked}, Workers.HasLeft};
 
 use crate::callable::Callable;
 use crate::job::{Back, Ending};
@@ -25,7 +25,7 @@ impl Handed {
 
 /// Calls a behaviour with this pass, and leaves the pass that it hands back.
 pub(crate) fn act<R: Wait, B: Callable>(rt: &R, behaviour: B, pass: Pass) -> Handed
-    ensures { WasCalled (B.outcome behaviour pass) result }
+    ensures { HasActed (B.outcome behaviour pass) result }
 {
     let Back { pass, ending } = behaviour.call(pass);
     Handed {

@@ -1,7 +1,7 @@
 //! The threads of a case.
 ghost use Rattle.std.specs.Prelude.{◌≡◌, ◌≤◌, ◌+◌, [], IsTrue, IsFalse, IfSome, length};
 ghost use Rattle.std.specs.Vec.{vec_len, vec_capacity};
-ghost use Rattle.tc_exec.specs.{Gates.IsPassed, Gates.IsStopped, Inside.AreAbove, Inside.GathersMore, Inside.KeepsFirst, Inside.jobs_of, Inside.runs_of, Workers.IsWorked};
+ghost use Rattle.tc_exec.specs.{Gates.IsPassed, Gates.IsStopped, Inside.AreAbove, Inside.GathersMore, Inside.KeepsFirst, Inside.jobs_of, Inside.runs_of, Inside.IsWorked};
 
 use crate::callable::Callable;
 use crate::gate::Gate;

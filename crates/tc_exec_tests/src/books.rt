@@ -78,13 +78,6 @@ fn one_after_the_other<R: Abort + Wait>(
     (shared, leave(rt, main), one, other)
 }
 
-/// What the run leaves whose ticket is the first, after this call.
-fn left_behind<R: Abort + Wait>(rt: &R, tickets: &mut Vec<Ticket>, row: &str) -> Left {
-    let mut pass = enter(rt, tickets);
-    calls(rt, &mut pass, row);
-    leave(rt, pass)
-}
-
 /// How a case is refused that is closed by what its first two runs left, and by what the third run of another case
 /// left: it got the verdict that its component had there.
 fn closed_by_another_reply<R: Abort + Wait>(rt: &R, alloc: Global) -> Option<CloseFault> {

@@ -30,12 +30,24 @@ pub(crate) fn take<R: Abort>(rt: &R, tickets: &mut Vec<Ticket>, place: usize) ->
     tickets.remove(place)
 }
 
-/// The pass of the run whose ticket is the first.
-pub(crate) fn enter<R: Abort + Wait>(rt: &R, tickets: &mut Vec<Ticket>) -> Pass {
-    match await_start(rt, take(rt, tickets, 0)) {
+/// The pass of the run whose ticket is at this place.
+pub(crate) fn enter_at<R: Abort + Wait>(rt: &R, tickets: &mut Vec<Ticket>, place: usize) -> Pass {
+    match await_start(rt, take(rt, tickets, place)) {
         Ok(pass) => pass,
         Err(_) => panic!(rt; "the run was never started"),
     }
+}
+
+/// The pass of the run whose ticket is the first.
+pub(crate) fn enter<R: Abort + Wait>(rt: &R, tickets: &mut Vec<Ticket>) -> Pass {
+    enter_at(rt, tickets, 0)
+}
+
+/// What the run leaves whose ticket is the first, after these calls.
+pub(crate) fn left_behind<R: Abort + Wait>(rt: &R, tickets: &mut Vec<Ticket>, rows: &str) -> Left {
+    let mut pass = enter(rt, tickets);
+    calls(rt, &mut pass, rows);
+    leave(rt, pass)
 }
 
 /// What the run leaves whose ticket is the first, which was never started.

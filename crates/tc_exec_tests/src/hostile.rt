@@ -338,31 +338,8 @@ fn pass_of_another_case(rt: HostRuntime) -> Result<(), AllocError> {
     Ok(())
 }
 
-/// Two jobs, the first of which sets pass.
-fn two_jobs(alloc: Global) -> Result<Vec<Job>, AllocError> {
-    let first = that_sets_pass(alloc)?;
-    let second = that_ends(alloc, Ok(()))?;
-    Ok(vec![in alloc; first, second]?)
-}
-
-/// Ends the test unless a whole case is reported, or refused because memory ran out.
-fn is_whole<R: Abort>(rt: &R, answer: Result<CaseReport, CaseError>) {
-    match answer {
-        Ok(report) => is(rt, "overall verdict", report.verdict, Verdict::Pass),
-        Err(why) => is(rt, "refusal", why, CaseError::NoMemory),
-    }
-}
-
-// If each allocation of this test fails in turn, memory is what is named: never that a whole case is torn.
-#[test]
-fn a_whole_case_is_never_torn(rt: HostRuntime) -> Result<(), AllocError> {
-    let jobs = two_jobs(rt.alloc())?;
-    is_whole(&rt, report_of(&rt, rt.alloc(), jobs, 1));
-    Ok(())
-}
-
 /// Lets the other threads continue for that many milliseconds, if any.
-fn pause<R: Clock>(rt: &R, late: Option<u64>) {
+pub(crate) fn pause<R: Clock>(rt: &R, late: Option<u64>) {
     if let Some(milliseconds) = late {
         thread::sleep(rt, Duration::from_millis(milliseconds));
     }
@@ -416,8 +393,8 @@ fn reply_of_start(alloc: Global, report: &CaseReport, ran: bool) -> Option<Reply
     Some(start.reply)
 }
 
-/// How late the Kill is in this round, or the Start: in one of eight rounds each, and more if the threads have been slow.
-fn lateness(round: u32, place: u32) -> Option<u64> {
+/// How late a call is in this round, if it is the one of this place: in one of eight rounds, and more if the threads have been slow.
+pub(crate) fn lateness(round: u32, place: u32) -> Option<u64> {
     if round % 8 == place {
         Some(if round < 200 { 2 } else { 20 })
     } else {

@@ -17,9 +17,9 @@ mod hostile;
 #[cfg(test)]
 mod jobs;
 #[cfg(test)]
-mod orders;
+mod limits;
 #[cfg(test)]
-mod places;
+mod orders;
 #[cfg(test)]
 mod settings;
 #[cfg(test)]

@@ -1,7 +1,9 @@
 //! A thread that waits is woken after each kind of entry by which it can continue, and does not spin.
-use crate::calls::{await_start, calls, close, enter, leave, open, reply_to, take};
-use crate::checks::{got, holds, is};
-use std::alloc::Global;
+use crate::calls::{await_start, calls, enter, leave, open, reply_to, take};
+use crate::checks::{at_least, got, holds, is};
+use crate::hostile;
+use crate::jobs::{Behaviour, report_of_two};
+use std::alloc::{AllocError, Global};
 use std::process::Abort;
 use std::sync::atomic::{AtomicBool, Ordering};
 use std::sync::{Arc, Wait};
@@ -9,7 +11,8 @@ use std::thread;
 use std::thread::{JoinHandle, Threads};
 use std::time::{Clock, CpuClock, Duration};
 use tc_book::{Halt, Left, Pass, Shared, Ticket};
-use tc_rules::{Comp, Entry, Fault, Op, Reply, Run, Target};
+use tc_exec::{Back, Job};
+use tc_rules::{Args, Comp, Entry, Fault, Group, Op, Reply, Run, Target};
 use tc_text::read_reply;
 
 /// A flag that is not set yet.
@@ -106,11 +109,6 @@ const CREATES: &str = "\
 0 create alive => made 1
 0 create alive => made 2";
 
-/// Starts a run on each.
-const STARTS: &str = "\
-0 start 1 1 => ok
-0 start 2 2 => ok";
-
 /// The reply by which the waiter continued.
 fn woken_by(left: &Left) -> Option<Reply> {
     match left.log().get(1) {
@@ -125,8 +123,8 @@ fn woken_by(left: &Left) -> Option<Reply> {
     }
 }
 
-/// What may wake a run that waits until component 2 is done, on which run 2 runs, and the reply by which the waiter
-/// continues. Each call is made before the runs leave, or is the Finish of the one that leaves first.
+/// What may wake a run that waits until component 2 is done, on which run 2 runs, while the main run does not wait; and
+/// the reply by which the waiter continues.
 const CAUSES: &str = "\
 2 finish => matched
 0 stop 2 => matched
@@ -136,74 +134,25 @@ const CAUSES: &str = "\
 2 stopcase => ended
 0 finish => ended";
 
-/// Makes the call of the cause, unless that is a Finish.
-fn call_cause<R: Abort + Wait>(rt: &R, cause: &str, main: &mut Pass, late: &mut Pass) {
-    if cause.ends_with(" finish") {
-        return;
-    }
-    let pass = if cause.starts_with("0 ") { main } else { late };
-    // What it wakes is compared, not its reply.
-    let _ = reply_to(rt, pass, cause);
-}
-
-/// Lets the cause happen and nothing else, until the waiter is seen to continue, and lets both passes leave.
-fn happen<R: Abort + Wait + Clock>(
-    rt: &R,
-    cause: &str,
-    main: Pass,
-    late: Pass,
-    woken: &AtomicBool,
-) -> (Left, Left) {
-    let (mut main, mut late) = (main, late);
-    call_cause(rt, cause, &mut main, &mut late);
-    if cause == "2 finish" {
-        let late = leave(rt, late);
-        holds(rt, cause, is_set_soon(rt, woken));
-        (leave(rt, main), late)
-    } else if cause == "0 finish" {
-        let main = leave(rt, main);
-        holds(rt, cause, is_set_soon(rt, woken));
-        (main, leave(rt, late))
-    } else {
-        holds(rt, cause, is_set_soon(rt, woken));
-        (leave(rt, main), leave(rt, late))
-    }
-}
-
-/// The waiter continues by this reply, and the case is closed.
-fn is_woken_by<R: Abort + Wait>(
-    rt: &R,
-    alloc: Global,
-    shared: Shared,
-    lefts: (Left, Left, Left),
-    reply: &str,
-) {
-    let (main, waiter, late) = lefts;
-    is(rt, reply, woken_by(&waiter), read_reply(reply.as_bytes()));
-    let lefts = got(rt, vec![in alloc; main, waiter, late]);
-    // It closes; the report is no concern of the test.
-    let _ = got(rt, close(rt, alloc, shared, lefts));
-}
-
-/// One case, in which run 1 waits on a thread until this cause happens.
+/// One case, in which run 1 waits on a thread until the main run or run 2 does this, and then continues by this reply.
 fn is_woken<R: Abort + Threads + Wait + Clock + CpuClock + Copy + Send + 'static>(
     rt: &R,
     alloc: Global,
     cause: &str,
     reply: &str,
 ) {
-    let (shared, main, tickets) = got(rt, open(alloc, 3));
+    let (_, main, tickets) = got(rt, open(alloc, 4));
     let (mut main, mut tickets) = (main, tickets);
-    calls(rt, &mut main, CREATES);
     let woken = unset(rt, alloc);
     let waiter = spawn(rt, take(rt, &mut tickets, 0), WAIT, &woken);
-    calls(rt, &mut main, STARTS);
-    let late = enter(rt, &mut tickets);
+    calls(rt, &mut main, OF_THREE);
+    let (mut second, mut main) = (Some(enter(rt, &mut tickets)), Some(main));
     pause(rt);
     holds(rt, "nothing has happened yet", !is_set(&woken));
-    let (main, late) = happen(rt, cause, main, late, &woken);
+    act(rt, &mut second, &mut main, cause);
+    holds(rt, cause, is_set_soon(rt, &woken));
     let (waiter, _) = waiter.join(rt);
-    is_woken_by(rt, alloc, shared, (main, waiter, late), reply);
+    is(rt, cause, woken_by(&waiter), read_reply(reply.as_bytes()));
 }
 
 /// One case for each of seven causes, after which nothing is called until the waiter is seen to continue.
@@ -534,4 +483,58 @@ fn waits_do_not_spin(rt: HostRuntime) {
     start_and_kill_late(&rt, &mut main);
     let (left, time) = waiter.join(&rt);
     has_waited(&rt, &left, time);
+}
+
+/// Waits until component 2 is killed, on which no run was started.
+fn waits_killed<R: Wait>(rt: &R, pass: Pass) -> Back {
+    let mut pass = pass;
+    let made = pass.wait_killed(rt, Target::One(Comp(2)));
+    Back::after(pass, made)
+}
+
+/// Starts run 1, kills component 2 so late, and waits until run 1 is done.
+fn kill_late<R: Wait + Clock>(rt: &R, pass: &mut Pass, late: Option<u64>) -> Result<(), Halt> {
+    let waiting = pass.create(rt, false)?;
+    let killed = pass.create(rt, false)?;
+    pass.start(rt, waiting, Run(1), &Args::new())?;
+    hostile::pause(rt, late);
+    pass.kill(rt, Group::One(killed))?;
+    pass.wait_done(rt, Target::One(waiting))
+}
+
+/// How many entries the log of run 1 has in which it waits until another component is killed.
+fn entries_of_wait<R: Abort + Threads + Wait + Clock + Copy + Send + 'static>(
+    rt: &R,
+    alloc: Global,
+    first: Job,
+    second: Job,
+) -> usize {
+    let report = report_of_two(rt, alloc, first, second, 1);
+    match report.logs.as_slice() {
+        [_, waiting] => waiting.entries.as_slice().len(),
+        _ => 0,
+    }
+}
+
+// 1,000 rounds, in one of eight of which the Kill is late: then the Wait is parked, and has its Wake.
+#[test]
+fn kill_against_a_wait(rt: HostRuntime) -> Result<(), AllocError> {
+    let (mut at_once, mut parked) = (0u64, 0u64);
+    for round in 0..1_000u32 {
+        let late = hostile::lateness(round, 3);
+        let first: Behaviour = Box::new(rt.alloc(), move |pass: Pass| {
+            let mut pass = pass;
+            let made = kill_late(&rt, &mut pass, late);
+            Back::after(pass, made)
+        })?;
+        let second: Behaviour = Box::new(rt.alloc(), move |pass: Pass| waits_killed(&rt, pass))?;
+        match entries_of_wait(&rt, rt.alloc(), Job::new(first), Job::new(second)) {
+            2 => at_once = at_once.saturating_add(1),
+            3 => parked = parked.saturating_add(1),
+            other => is(&rt, "entries of the wait", other, 2),
+        }
+    }
+    at_least(&rt, "waits that were not parked", at_once, 20);
+    at_least(&rt, "waits that were parked", parked, 20);
+    Ok(())
 }

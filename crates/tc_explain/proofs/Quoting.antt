@@ -1,8 +1,10 @@
 -- What is before the first odd byte.
-use Rattle.std.proofs.Common.{ℕ, ◌≡◌, ◌≤◌, Bool, true, false, cond, Some, None, List, length, take, nat_lt, sym, ap, refl, arith}
-use Rattle.std.specs.List.{before_first, position, position_or_len}
-use Rattle.std.proofs.lemmas.{Bool.Decides.nat_tests, List.take_all}
-use Rattle.tc_explain.specs.Explanation.{is_odd}
+use Rattle.std.{proofs.{Common.{ℕ, ◌≡◌, ◌≤◌, Bool, true, false, cond, Some, None, List, length, take, nat_lt, not, sym, ap, refl, arith}, lemmas.{Bool.Decides.nat_tests, List.take_all}}, specs.List.{before_first, position, position_or_len}}
+use Rattle.tc_text.specs.Prelude.{is_plain}
+
+-- a byte that no line may have
+abbrev is_odd : ℕ → Bool
+is_odd b = not (is_plain b)
 
 by_some : (t : Bool) (p at : ℕ) → cond t (Some p) None ≡ Some at → p ≡ at
 by_some true p at e = cc

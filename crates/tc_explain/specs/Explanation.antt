@@ -1,9 +1,7 @@
 -- What matters of what is printed about a refused text, besides its fault: what some of the lines hold, and what is open
 -- before a line.
-use Rattle.std.specs.Prelude.{ℕ, suc, nat_le, true, false, if◌then◌else◌, Option, Some, None, List, [], ◌∷◌, codes, not, Bool, take, ◌+◌, ◌++◌, ◌||◌}
-use Rattle.std.specs.{Fmt.decimal, List.before_first, List.position, Option.option_map_or}
-use Rattle.tc_reader.specs.declared.line.Keyword.{Keyword}
-use Rattle.tc_reader.specs.Prelude.{words, is_text, keyword, lines}
+use Rattle.std.specs.{Prelude.{ℕ, suc, nat_le, true, false, if◌then◌else◌, Option, Some, None, List, [], ◌∷◌, codes, not, take, ◌+◌, ◌++◌, ◌||◌}, Fmt.decimal, List.{before_first, position}, Option.option_map_or}
+use Rattle.tc_reader.specs.{declared.line.Keyword.Keyword, Prelude.{words, is_text, keyword, lines}}
 use Rattle.tc_text.specs.Prelude.{is_plain, Line}
 use Rattle.tc_explain.specs.declared.{quote.TheConstants.SHOWN, scan.Opened.Opened}
 
@@ -16,26 +14,23 @@ after_keyword number (Some Keyword.End) o = Opened.Nothing
 after_keyword number keyword o = o
 
 -- what is open after the line with this number and these words; a history and evidence end by the same word as a test case
-abbrev pub behind : ℕ → List (List ℕ) → Opened → Opened
-behind number [] o = o
-behind number (w ∷ ws) o = if is_text w (codes "history") || is_text w (codes "evidence") then Opened.Begun number false else after_keyword number (keyword w) o
+abbrev pub after_line : ℕ → List (List ℕ) → Opened → Opened
+after_line number [] o = o
+after_line number (w ∷ ws) o = if is_text w (codes "history") || is_text w (codes "evidence") then Opened.Begun number false else after_keyword number (keyword w) o
 
 -- what is open before the wanted line, and that line, if it is among these, of which the first has this number
 abbrev pub find : ℕ → ℕ → Opened → List (List ℕ) → Opened × Option (List ℕ)
 find wanted number o [] = (o, None)
-find wanted number o (l ∷ ls) = if nat_le wanted number then (o, Some l) else find wanted (suc number) (behind number (words l) o) ls
+find wanted number o (l ∷ ls) = if nat_le wanted number then (o, Some l) else find wanted (suc number) (after_line number (words l) o) ls
 
--- a byte that no line may have
-abbrev pub is_odd : ℕ → Bool
-is_odd b = not (is_plain b)
-
--- the begin of a line or a word in quotation: a backquote, and the bytes before the first odd one, of a long one the first
+-- the begin of a line or a word in quotation: a backquote, and the bytes before the first odd one, which no line may have; of a
+-- long one the first
 abbrev pub quoted : List ℕ → List ℕ
-quoted bytes = 96 ∷ before_first is_odd (take SHOWN bytes)
+quoted bytes = 96 ∷ before_first (λ b. not (is_plain b)) (take SHOWN bytes)
 
 -- the line, and the column of its first odd byte, if it has one
 abbrev pub line_note : List ℕ → List Line
-line_note line = (quoted line ∷ []) ∷ option_map_or (λ at. (decimal (at + 1) ∷ []) ∷ []) (position is_odd line) []
+line_note line = (quoted line ∷ []) ∷ option_map_or (λ at. (decimal (at + 1) ∷ []) ∷ []) (position (λ b. not (is_plain b)) line) []
 
 -- the lines where what is open began, the innermost first
 abbrev pub open_note : Opened → List Line

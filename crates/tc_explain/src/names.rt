@@ -99,10 +99,7 @@ impl<'t> Names<'t> {
 
 // Whether these are the words of a line that begins a test case.
 fn begins_case(words: &[&[u8]]) -> bool {
-    match words {
-        [first, ..] => is_word(first, Keyword::TestCase.text().as_bytes()),
-        [] => false,
-    }
+    matches!(words, [first, ..] if is_word(first, Keyword::TestCase.text().as_bytes()))
 }
 
 /// No names.
@@ -117,10 +114,5 @@ pub(crate) fn no_names<'t>(alloc: Global) -> Names<'t> {
 
 /// The first of these with this name.
 pub(crate) fn given_as<'t>(given: &[Given<'t>], name: &[u8]) -> Option<Given<'t>> {
-    for one in given {
-        if is_word(one.name, name) {
-            return Some(*one);
-        }
-    }
-    None
+    given.iter().find(|one| is_word(one.name, name)).copied()
 }

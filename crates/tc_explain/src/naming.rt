@@ -59,11 +59,8 @@ fn add_elsewhere(help: &mut Help, names: &Names, word: &[u8]) -> Result<(), NoMe
     }
     match given_as(names.behaviours.as_slice(), word) {
         Some(one) => {
-            help.add_counted(
-                "it names the behaviour in line ",
-                one.line,
-                ", and no component",
-            )
+            let rest = ", and no component";
+            help.add_counted("it names the behaviour in line ", one.line, rest)
         }
         None => Ok(()),
     }
@@ -144,10 +141,8 @@ fn twice_parameter(words: &[&[u8]]) -> Option<usize> {
 
 // The first of these with this name, if it is above the line.
 fn line_above(given: &[Given], name: &[u8], line: usize) -> Option<usize> {
-    match given_as(given, name) {
-        Some(one) if one.line < line => Some(one.line),
-        _ => None,
-    }
+    let first = given_as(given, name)?.line;
+    (first < line).then_some(first)
 }
 
 // The place of the name of a line that is given already, and the line that gives it first.

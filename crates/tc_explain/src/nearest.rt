@@ -1,4 +1,6 @@
 //! The nearest of some words to a word.
+ghost use Rattle.std.specs.Prelude.{◌≡◌, ◌<◌, ◌≤◌, ◌*◌, ◌⊎◌, ◌↔◌, IsTrue, length};
+
 use std::alloc::Global;
 use strsim::generic_damerau_levenshtein;
 use tc_entry::NAME_BYTES;
@@ -54,9 +56,11 @@ fn nearest<'t>(
     Ok(found)
 }
 
-// Whether that many edits of a word are few: some, but at most a third of its letters, or one of a word of two or three.
-fn is_near(word: &[u8], distance: usize) -> bool {
-    0 < distance && distance < word.len() && distance <= word.len().max(3) / 3
+// Whether that many edits of a word are few: some, but fewer than it has letters, and one or at most a third of them.
+fn is_near(word: &[u8], distance: usize) -> bool
+    ensures { IsTrue result ↔ (0 < distance) × ((distance < length word.now) × ((distance ≡ 1) ⊎ (3 * distance ≤ length word.now))) }
+{
+    0 < distance && distance < word.len() && (distance == 1 || distance <= word.len() / 3)
 }
 
 /// The word of the table that is the nearest to a word, if it is near.

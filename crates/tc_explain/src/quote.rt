@@ -1,7 +1,8 @@
 //! Bytes of a text, as they are shown, and those that no line may have.
-ghost use Rattle.std.specs.Prelude.{◌≡◌, ◌<◌, IfOk, IfSome, length, take};
+ghost use Rattle.std.specs.Prelude.{◌≡◌, ◌<◌, IfOk, IfSome, length, not, take};
 ghost use Rattle.std.specs.List.{before_first, position};
-ghost use Rattle.tc_explain.specs.Explanation.{is_odd, quoted};
+ghost use Rattle.tc_text.specs.Prelude.{is_plain as is_plain_byte};
+ghost use Rattle.tc_explain.specs.Explanation.{quoted};
 
 use std::alloc::Global;
 use tc_text::{append_text, is_plain};
@@ -42,7 +43,7 @@ fn shown(bytes: &[u8]) -> &[u8]
 
 /// How many bytes are before the first odd byte, if there is one.
 pub(crate) fn odd_place(line: &[u8]) -> Option<usize>
-    ensures place { result ≡ position is_odd line.now }
+    ensures place { result ≡ position (λ b. not (is_plain_byte b)) line.now }
     ensures within { IfSome result (λ at. at < length line.now) }
 {
     line.iter().position(|byte| !is_plain(*byte))
@@ -51,7 +52,7 @@ pub(crate) fn odd_place(line: &[u8]) -> Option<usize>
 // The bytes before the first odd one.
 #[tactic(auto, using(crate::proofs::Quoting::begin_rules))]
 fn plain_begin(bytes: &[u8]) -> &[u8]
-    ensures { result.now ≡ before_first is_odd bytes.now }
+    ensures { result.now ≡ before_first (λ b. not (is_plain_byte b)) bytes.now }
 {
     match odd_place(bytes) {
         Some(at) => &bytes[..at],

@@ -1,7 +1,7 @@
 //! A line of a text, and what is open before it.
 ghost use Rattle.std.specs.Prelude.{◌≡◌, IfOk, map, option_copied};
 ghost use Rattle.tc_reader.specs.Prelude.{lines};
-ghost use Rattle.tc_explain.specs.Explanation.{after_keyword as keyword_after, behind, find};
+ghost use Rattle.tc_explain.specs.Explanation.{after_keyword as keyword_after, after_line as line_after, find};
 
 use std::alloc::Global;
 use tc_reader::{Keyword, Lines, is_word, read_keyword, read_words};
@@ -40,8 +40,8 @@ impl Opened {
     }
 
     // What is open after the line with this number and these words.
-    fn behind(self, number: usize, words: &[&[u8]]) -> Opened
-        ensures { result ≡ behind number (map (λ w. w.now) words.now) self }
+    fn after_line(self, number: usize, words: &[&[u8]]) -> Opened
+        ensures { result ≡ line_after number (map (λ w. w.now) words.now) self }
     {
         match words {
             [] => self,
@@ -70,7 +70,7 @@ pub(crate) fn find_line<'t>(
             return Ok(Found { opened, line: None });
         };
         read_words(line, &mut words)?;
-        opened = opened.behind(number, words.as_slice());
+        opened = opened.after_line(number, words.as_slice());
     }
     let line = rest.next();
     Ok(Found { opened, line })

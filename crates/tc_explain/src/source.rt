@@ -129,12 +129,8 @@ fn is_mark(first: &[u8], second: &[u8]) -> bool {
 
 // What a script has instead of this token, if it lacks it.
 fn absent(token: &[u8]) -> Option<&'static str> {
-    for (words, text) in &ABSENT {
-        if has_word(words, token) {
-            return Some(text);
-        }
-    }
-    None
+    let mut rows = ABSENT.iter();
+    Some(rows.find(|row| has_word(row.0, token))?.1)
 }
 
 // Whether the line of these tokens seems to be of TTCN-3.
@@ -152,26 +148,19 @@ fn is_source(tokens: &[&[u8]]) -> bool {
     }
 }
 
-// The tokens without what ends a line of TTCN-3, and without the type of a variable.
+// The tokens without what ends a line of TTCN-3, brackets with nothing in them too, and without the type of a variable.
 fn plain<'a, 't>(tokens: &'a [&'t [u8]]) -> &'a [&'t [u8]] {
     let rest = match tokens {
         [first, _, others @ ..] if is_word(first, b"var") => others,
         _ => tokens,
     };
-    let mut end = 0;
-    for (at, token) in rest.iter().enumerate() {
-        if !is_word(token, b";") && !is_word(token, b"{") {
-            end = at + 1;
-        }
-    }
-    without_brackets(rest.get(..end).unwrap_or(rest))
-}
-
-// The tokens without brackets with nothing in them at their end.
-fn without_brackets<'a, 't>(tokens: &'a [&'t [u8]]) -> &'a [&'t [u8]] {
-    match tokens {
+    let reversed = rest.iter().rev();
+    let count = reversed
+        .skip_while(|token| is_word(token, b";") || is_word(token, b"{"))
+        .count();
+    match rest.get(..count).unwrap_or(rest) {
         [others @ .., open, close] if is_word(open, b"(") && is_word(close, b")") => others,
-        _ => tokens,
+        all => all,
     }
 }
 
@@ -215,11 +204,8 @@ fn unquoted(token: &[u8]) -> &[u8] {
 
 // How many of these tokens are one call, if all are.
 fn one_call(tokens: &[&[u8]]) -> Option<usize> {
-    if tokens.iter().any(|token| is_word(token, b";")) {
-        None
-    } else {
-        Some(tokens.len())
-    }
+    let is_one = !tokens.iter().any(|token| is_word(token, b";"));
+    is_one.then_some(tokens.len())
 }
 
 // How many tokens the part of a form has that these tokens begin with. Its words are added to those that were found. None
@@ -337,12 +323,9 @@ fn add_instead(help: &mut Help, tokens: &[&[u8]]) -> Result<(), NoMemory> {
     if line.len() <= LONGEST && is_line(help.alloc, line.as_slice())? {
         return help.add_named("in a script:", line.as_slice());
     }
-    for token in tokens {
-        if let Some(text) = absent(token) {
-            return help.add_line(text);
-        }
-    }
-    help.add_line("a line of a script is one call, in words without ( ) { } ; and :=")
+    let otherwise = "a line of a script is one call, in words without ( ) { } ; and :=";
+    let found = tokens.iter().find_map(|token| absent(token));
+    help.add_line(found.unwrap_or(otherwise))
 }
 
 /// Adds what a script has instead of a line that seems to be of TTCN-3. Whether it does.

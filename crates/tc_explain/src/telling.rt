@@ -1,8 +1,8 @@
 //! What is printed about a refused text.
-ghost use Rattle.std.specs.Prelude.{◌<◌, ◌+◌, ◌^◌, [], ◌∷◌, IfOk, OnOk, length, option_copied};
+ghost use Rattle.std.specs.Prelude.{◌<◌, ◌+◌, ◌^◌, [], ◌∷◌, IfOk, OnOk, length, not, option_copied};
 ghost use Rattle.std.specs.{Fmt.decimal, List.position, Option.option_map_or};
-ghost use Rattle.tc_text.specs.Prelude.{TellsAmong, TellsLine};
-ghost use Rattle.tc_explain.specs.Explanation.{explanation, is_odd, line_note, open_note, quoted};
+ghost use Rattle.tc_text.specs.Prelude.{TellsAmong, TellsLine, is_plain};
+ghost use Rattle.tc_explain.specs.Explanation.{explanation, line_note, open_note, quoted};
 
 use crate::hints::{Around, hints};
 use crate::nearest::near_word;
@@ -119,7 +119,7 @@ fn append_wrong(
     around: Around,
     line: &[u8],
 ) -> Result<(), NoMemory>
-    ensures { OnOk result (TellsAmong (option_map_or (λ at. (decimal (at + 1) ∷ []) ∷ []) (position is_odd line.now) [])
+    ensures { OnOk result (TellsAmong (option_map_or (λ at. (decimal (at + 1) ∷ []) ∷ []) (position (λ b. not (is_plain b)) line.now) [])
         out.old.items out.new.items) }
 {
     match odd_place(line) {

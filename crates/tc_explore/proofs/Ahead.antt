@@ -1,15 +1,10 @@
 -- What holds of a history that is ahead of another by the ends of runs.
-use Rattle.std.proofs.Common.{ℕ, ◌≡◌, ◌==◌, ◌||◌, ◌&&◌, ◌⊎◌, inl, inr, not, if◌then◌else◌, nat_le, Bool, true, false, Option, Some, None, is_some, MatchOption, List, [], ◌∷◌, length, drop, refl, ap, sym, subst, ◌∙◌, ◌≤◌, arith}
-use Rattle.std.specs.List.{list_any, list_all}
-use Rattle.tc_rules.specs.Prelude.{Run, Comp, Entry, Op, Target, Phase, Reply, is_ended, is_fault, comp_of, ptcs, exists, is_in, created, add_new, halts, kills, phase, start_in, done, killed, is_running, is_killed, is_done, gives, overall, holds, fault, names, all_exist, asks_many, special_fault, start_fault, components, answer, plain_answer, is_active, is_active_on, is_run_of, IsLegal, level_of, Verdict, Fault}
+use Rattle.std.{proofs.{lemmas.Bool.or_right, Common.{ℕ, ◌≡◌, ◌==◌, ◌||◌, ◌&&◌, ◌⊎◌, inl, inr, not, if◌then◌else◌, nat_le, Bool, true, false, Option, Some, None, is_some, MatchOption, List, [], ◌∷◌, length, drop, refl, ap, sym, subst, ◌∙◌, ◌≤◌, arith}}, specs.List.{list_any, list_all}}
+use Rattle.tc_rules.{specs.{Prelude.{Run, Comp, Entry, Op, Target, Phase, Reply, is_ended, is_fault, comp_of, ptcs, exists, is_in, created, add_new, halts, kills, phase, start_in, done, killed, is_running, is_killed, is_done, gives, overall, holds, fault, names, all_exist, asks_many, special_fault, start_fault, components, answer, plain_answer, is_active, is_active_on, is_run_of, IsLegal, level_of, Verdict, Fault}, Inside.Step.next_phase, declared.awaited.Awaited.Awaited}, proofs.Lemmas.{Deciding.{equal_if, self_equal}, Going.starts_still, Keeping.all_exist_same, Over.on_existing, Sound.plain_if}}
 use Rattle.tc_entry.specs.declared.limits.TheConstants.{COMPONENTS}
 use Rattle.tc_step.specs.Prelude.{ScriptView}
-use Rattle.tc_rules.specs.{Inside.Step.next_phase, declared.awaited.Awaited.Awaited}
-use Rattle.tc_rules.proofs.Lemmas.{Deciding.equal_if, Deciding.self_equal, Going.starts_still, Keeping.all_exist_same, Over.on_existing, Sound.plain_if}
-use Rattle.tc_course.specs.Prelude.{CourseState, stand, goes_on, IsCourse}
-use Rattle.tc_course.proofs.Lemmas.{stand_comp, stand_other}
-use Rattle.tc_explore.specs.Inside.Simulation.{IsAlike, IsQuietAt, call_at, IsLastAt, WasParked, IsLeaving, IsEnding, IsAhead, IsBarredBefore}
-use Rattle.tc_explore.proofs.Alike.{is_plain_call, phase_next, overall_next, next_no_better}
+use Rattle.tc_course.{specs.Prelude.{CourseState, stand, goes_on, IsCourse}, proofs.Lemmas.{stand_comp, stand_other}}
+use Rattle.tc_explore.{specs.Inside.Simulation.{IsAlike, IsQuietAt, call_at, IsLastAt, WasParked, IsLeaving, IsEnding, IsAhead, IsBarredBefore}, proofs.Alike.{is_plain_call, phase_next, overall_next, next_no_better}}
 
 -- ---- waits
 
@@ -17,13 +12,9 @@ any_more : (f g : ℕ → Bool) (xs : List ℕ) → ((x : ℕ) → f x ≡ true 
 any_more f g [] h k = k
 any_more f g (x ∷ xs) h k = by_test (any_more f g xs h) (f x) refl k
   where
-    or_yes : (t : Bool) → (t || true) ≡ true
-    or_yes true = refl
-    or_yes false = refl
-
     by_test : (list_any f xs ≡ true → list_any g xs ≡ true) → (t : Bool) → f x ≡ t → (t || list_any f xs) ≡ true → (g x || list_any g xs) ≡ true
     by_test rest true j l = rw (h x j) refl
-    by_test rest false j l = rw (rest l) (or_yes (g x))
+    by_test rest false j l = rw (rest l) (or_right (g x) true refl)
 
 all_more : (f g : ℕ → Bool) (xs : List ℕ) → ((x : ℕ) → f x ≡ true → g x ≡ true) → list_all f xs ≡ true → list_all g xs ≡ true
 all_more f g [] h k = k
@@ -122,9 +113,8 @@ module _ {aim : Verdict} {scripts : List ScriptView} {p q : List Entry} where
 -- ---- errors
 
 pub none_too : {A : Type 0} (f g : Option A) → is_some f ≡ is_some g → f ≡ None → g ≡ None
-none_too f None h k = refl
-none_too None (Some y) h k = absurd cc
-none_too (Some x) (Some y) h k = absurd cc
+none_too None None h k = refl
+none_too _ _ h k = absurd cc
 
 pub some_too : {A : Type 0} (f g : Option A) (x : A) → is_some f ≡ is_some g → f ≡ Some x → (y : A) × (g ≡ Some y)
 some_too f (Some y) x h k = (y, refl)
@@ -176,19 +166,13 @@ module _ {aim : Verdict} {scripts : List ScriptView} {p q : List Entry} where
   plain_ahead : IsAhead aim scripts p q → (b : ℕ) (op : Op) → is_plain_call op ≡ true → goes_on (plain_answer p b op) ≡ true → plain_answer p b op ≡ plain_answer q b op
   unfolding components
   plain_ahead s b (Op.Create alive name) h g = ap (λ (cs : List ℕ). Reply.Made (record { 0 = length cs })) s.comps_same
-  plain_ahead s b (Op.Start c run args) h g = refl
-  plain_ahead s b (Op.Stop t) h g = refl
-  plain_ahead s b (Op.Kill t) h g = refl
   plain_ahead s b (Op.Wait k t) h g = by_test (holds p (record { killed = k; target = t })) refl g
     where
       by_test : (z : Bool) → holds p (record { killed = k; target = t }) ≡ z → goes_on (if z then Reply.Matched else Reply.Parked) ≡ true →
           (if z then Reply.Matched else Reply.Parked) ≡ (if holds q (record { killed = k; target = t }) then Reply.Matched else Reply.Parked)
       by_test true j l = rw (holds_ahead s (record { killed = k; target = t }) j) refl
       by_test false j l = absurd cc
-  plain_ahead s b Op.StopCase h g = refl
-  plain_ahead s b (Op.SetVerdict v) h g = refl
-  plain_ahead s b Op.Finish h g = refl
-  plain_ahead s b _ h g = absurd cc
+  plain_ahead s b _ h g = cc
 
   -- a call that is no error and is not parked is answered alike
   pub answer_ahead : IsAhead aim scripts p q → (n b : ℕ) (op : Op) → is_plain_call op ≡ true → is_active q b ≡ true → goes_on (answer n p b op) ≡ true → is_fault (answer n p b op) ≡ false → answer n p b op ≡ answer n q b op
@@ -221,27 +205,28 @@ leaving_later {aim} scripts q r b s keeps l = record { parked = by_wake s.wake l
 pub ahead_self : {aim : Verdict} (scripts : List ScriptView) (p : List Entry) → IsAhead aim scripts p p
 ahead_self scripts p = record { comps_same = refl; phases = λ c. inl refl; kind_same = λ c. refl; comp_same = λ b. refl; no_better = omega arith }
 
+-- a component whose phase stays as it is after q
+pub phase_later : {aim : Verdict} (scripts : List ScriptView) (p q r : List Entry) (c : ℕ) → phase r c ≡ phase q c → KeepsQuiet (length scripts) q r → (phase p c ≡ phase q c) ⊎ IsEnding aim scripts p q c → (phase p c ≡ phase r c) ⊎ IsEnding aim scripts p r c
+phase_later scripts p q r c same keeps (inl e) = inl (e ∙ sym same)
+phase_later scripts p q r c same keeps (inr n) = inr (record {
+  run = n.run;
+  running = n.running;
+  ended = same ∙ n.ended;
+  not_main = n.not_main;
+  on = n.on;
+  ordinary = n.ordinary;
+  leaving = leaving_later scripts q r n.run.0 (stand p n.run.0) keeps n.leaving;
+})
+
 -- q changes to what is alike
 pub ahead_after : {aim : Verdict} (scripts : List ScriptView) (p q r : List Entry) → IsAhead aim scripts p q → IsAlike q r → KeepsQuiet (length scripts) q r → level_of (overall q) ≤ level_of (overall r) → IsAhead aim scripts p r
 ahead_after {aim} scripts p q r s a keeps worse = record {
   comps_same = s.comps_same ∙ a.comps_same;
-  phases = λ c. by_phase c (s.phases c);
+  phases = λ c. phase_later scripts p q r c (sym (a.phase_same c)) keeps (s.phases c);
   kind_same = λ c. s.kind_same c ∙ a.kind_same c;
   comp_same = λ b. s.comp_same b ∙ a.comp_same b;
   no_better = let l = s.no_better in omega (arith, l, worse);
 }
-  where
-    by_phase : (c : ℕ) → (phase p c ≡ phase q c) ⊎ IsEnding aim scripts p q c → (phase p c ≡ phase r c) ⊎ IsEnding aim scripts p r c
-    by_phase c (inl e) = inl (e ∙ a.phase_same c)
-    by_phase c (inr n) = inr (record {
-      run = n.run;
-      running = n.running;
-      ended = sym (a.phase_same c) ∙ n.ended;
-      not_main = n.not_main;
-      on = n.on;
-      ordinary = n.ordinary;
-      leaving = leaving_later scripts q r n.run.0 (stand p n.run.0) keeps n.leaving;
-    })
 
 -- what is known of a run that is leaving, after an entry of another
 pub leaving_other : {aim : Verdict} (scripts : List ScriptView) (p q : List Entry) (e : Entry) (c : ℕ) (n : IsEnding aim scripts p q c) → IsCourse scripts p → (e.caller.0 == n.run.0) ≡ false → IsLeaving aim scripts q n.run.0 (stand (e ∷ p) n.run.0)

@@ -1,11 +1,7 @@
 -- Histories that are alike are answered alike, except for questions, and are alike after the same entry.
-use Rattle.std.proofs.Common.{ℕ, ◌≡◌, ◌==◌, ◌&&◌, ◌||◌, not, if◌then◌else◌, nat_lt, Bool, true, false, Option, Some, None, is_some, List, [], ◌∷◌, ◌++◌, length, drop, map, refl, ap, sym, ◌∙◌, arith, ◌≤◌}
-use Rattle.std.proofs.lemmas.Bool.Decides.{nat_tests}
-use Rattle.std.specs.List.{list_any, list_all}
-use Rattle.tc_rules.specs.Prelude.{Run, Verdict, worse, worst, level_of, Comp, Entry, Op, Target, Phase, comps, comp_of, ptcs, exists, is_in, is_comp, is_alive_type, created, started_on, first_some, add_new, halts, kills, phase, phase_if_any, start_in, done, killed, is_running, is_killed, is_done, local, overall, gives, verdicts_of, holds, fault, names, special_fault, start_fault, components, answer, is_active, is_active_on, is_run_of, IsLegal, Group, Reply}
+use Rattle.std.{proofs.{lemmas.Bool.{or_parts, or_right, Decides.nat_tests}, Common.{ℕ, ◌≡◌, ◌==◌, ◌&&◌, ◌||◌, not, if◌then◌else◌, nat_lt, Bool, true, false, Option, Some, None, is_some, List, [], ◌∷◌, ◌++◌, length, drop, map, refl, ap, sym, ◌∙◌, arith, ◌≤◌}}, specs.List.{list_any, list_all}}
+use Rattle.tc_rules.{specs.{Prelude.{Run, Verdict, worse, worst, level_of, Comp, Entry, Op, Target, Phase, comps, comp_of, ptcs, exists, is_in, is_comp, is_alive_type, created, started_on, first_some, add_new, halts, kills, phase, phase_if_any, start_in, done, killed, is_running, is_killed, is_done, local, overall, gives, verdicts_of, holds, fault, names, special_fault, start_fault, components, answer, is_active, is_active_on, is_run_of, IsLegal, Group, Reply}, Inside.{Kept.{blank, state_of}, Step.{next_local, next_phase, next_state}}, declared.{awaited.Awaited.Awaited, component_state.ComponentState.ComponentState}}, proofs.Lemmas.{Deciding.{equal_if, if_same, self_equal}, Fresh.fresh_step, Keeping.{all_exist_same, kill_halts}, LawsOfHistories.killed_was_halted, Over.{on_existing, stays}, Sound.starts, Steps.state_step}}
 use Rattle.tc_verdict.proofs.Lemmas.Order.{worse_later, worse_swap, worse_left, worse_right}
-use Rattle.tc_rules.specs.{Inside.Kept.blank, Inside.Kept.state_of, Inside.Step.next_local, Inside.Step.next_phase, Inside.Step.next_state, declared.awaited.Awaited.Awaited, declared.component_state.ComponentState.ComponentState}
-use Rattle.tc_rules.proofs.Lemmas.{Deciding.equal_if, Deciding.if_same, Deciding.self_equal, Fresh.fresh_step, Keeping.all_exist_same, Keeping.kill_halts, LawsOfHistories.killed_was_halted, Over.on_existing, Over.stays, Sound.starts, Steps.state_step}
 use Rattle.tc_explore.specs.Inside.Simulation.{IsAlike, is_gone, is_late, is_met}
 
 -- ---- what is the same
@@ -88,14 +84,10 @@ module _ {p q : List Entry} where
   pub late_alike : IsAlike p q → (op : Op) → is_late p op ≡ is_late q op
   late_alike s (Op.Stop (Group.One c)) = ap (λ o. not (c.0 == 0) && is_gone o) (any_phase_same s c.0)
   late_alike s (Op.Kill (Group.One c)) = ap (λ o. not (c.0 == 0) && is_gone o) (any_phase_same s c.0)
-  late_alike s (Op.Stop Group.All) = refl
-  late_alike s (Op.Kill Group.All) = refl
   late_alike s _ = refl
 
   pub met_alike : IsAlike p q → (op : Op) → is_met p op ≡ is_met q op
   met_alike s (Op.Wait k (Target.One c)) = ap is_gone (any_phase_same s c.0)
-  met_alike s (Op.Wait k Target.Any) = refl
-  met_alike s (Op.Wait k Target.All) = refl
   met_alike s _ = refl
 
 -- the reply to the call depends only on what is alike
@@ -110,17 +102,9 @@ is_plain_call _ = true
 
 -- ---- one more entry
 
-either_no : (a : Bool) → (a || false) ≡ false → a ≡ false
-either_no true h = absurd cc
-either_no false h = refl
-
 in_last : (c : ℕ) (ns : List ℕ) → is_in c (ns ++ c ∷ []) ≡ true
 in_last c [] = rw (self_equal c) refl
-in_last c (n ∷ ns) = rw (in_last c ns) (or_yes (c == n))
-  where
-    or_yes : (t : Bool) → (t || true) ≡ true
-    or_yes true = refl
-    or_yes false = refl
+in_last c (n ∷ ns) = rw (in_last c ns) (or_right (c == n) true refl)
 
 not_made : (o : Option Comp) (c : ℕ) (ns : List ℕ) → is_in c (add_new o ns) ≡ false → is_comp o c ≡ false
 not_made None c ns h = refl
@@ -169,7 +153,7 @@ was_out past e c out = by_test (exists past c) refl
 -- a component that is not yet made is blank
 pub fresh : (n : ℕ) (past : List Entry) (c : ℕ) → IsLegal n past → exists past c ≡ false → state_of past c ≡ blank
 unfolding exists phase local
-fresh n [] c legal out = let t : (c == 0) ≡ false = either_no (c == 0) out in rw t refl
+fresh n [] c legal out = let t : (c == 0) ≡ false = (or_parts (c == 0) false out).0 in rw t refl
 fresh n (e ∷ past) c legal out =
     let before : exists past c ≡ false = was_out past e c out in
     fresh_step past e c before (no_start n past e c legal before) (no_caller n past e.caller.0 c legal.1 before) (fresh n past c legal.1 before)

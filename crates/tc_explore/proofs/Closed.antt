@@ -1,13 +1,9 @@
 -- When what comes after a state is seen, or its verdict is found.
-use Rattle.std.proofs.Common.{Bool, ℕ, ◌≡◌, ◌+◌, ◌-◌, ◌<◌, ◌≤◌, true, false, Some, List, ◌∷◌, ◌++◌, length, reverse, refl, ap, sym, subst, ◌∙◌, arith, length-append}
-use Rattle.std.proofs.lemmas.List.{append_assoc}
-use Rattle.tc_rules.specs.Prelude.{Run, Entry, Op, Reply, is_fault, Case, past_of, is_over, overall, answer, Verdict, level_of}
+use Rattle.std.proofs.{Common.{Bool, ℕ, ◌≡◌, ◌+◌, ◌-◌, ◌<◌, ◌≤◌, true, false, Some, List, ◌∷◌, ◌++◌, length, reverse, refl, ap, sym, subst, ◌∙◌, arith, length-append}, lemmas.List.append_assoc}
+use Rattle.tc_rules.specs.Prelude.{Run, Entry, Op, Reply, is_fault, Case, past_of, is_over, overall, answer, Verdict, level_of, entry_made}
 use Rattle.tc_step.specs.Prelude.{ScriptView}
-use Rattle.tc_course.specs.declared.witness.Witness.{Witness}
-use Rattle.tc_course.specs.Prelude.{is_found, goes_on, turn, IsTurn, IsCourse, entry_made, IsOn, CannotGo}
-use Rattle.tc_course.proofs.Lemmas.{below_more}
-use Rattle.tc_explore.specs.{Inside.Seen.AreHeld, Inside.Seen.AreStill, Inside.Seen.IsAfter, Inside.Seen.IsCalm, Inside.Seen.IsFull, Inside.Seen.IsHeldAt, Inside.Seen.IsLonger, Inside.Seen.IsRunClosed, Inside.Seen.IsSeen, Inside.Seen.IsState, Inside.Seen.IsStillAt, Inside.Seen.StandsOn, Inside.Seen.run_at, Inside.Simulation.GoesOn, Inside.Simulation.IsClosedFor, Inside.Simulation.IsCovered, Inside.Simulation.IsWithin, Inside.Simulation.is_spent, declared.search.Met.Met}
-use Rattle.tc_explore.proofs.Seeing.{closed_for_longer, covered_by}
+use Rattle.tc_course.{specs.{declared.witness.Witness.Witness, Prelude.{is_found, goes_on, turn, IsTurn, IsCourse, IsOn, CannotGo}}, proofs.Lemmas.below_more}
+use Rattle.tc_explore.{specs.{Inside.{Seen.{AreHeld, AreStill, IsAfter, IsCalm, IsFull, IsHeldAt, IsLonger, IsRunClosed, IsSeen, IsState, IsStillAt, StandsOn, run_at}, Simulation.{GoesOn, IsClosedFor, IsCovered, IsWithin, is_spent}}, declared.search.Met.Met}, proofs.Seeing.{closed_for_longer, covered_by}}
 
 -- what a copy of a course has called, it has called
 pub with_copied : (t u v : Case) (run : Run) (op : Op) → u.behaviours ≡ t.behaviours → u.history ≡ t.history → past_of v ≡ entry_made u.behaviours (past_of u) run op ∷ past_of u →

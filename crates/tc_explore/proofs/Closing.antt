@@ -1,18 +1,11 @@
 -- If whatever comes after each seen history is seen, or its verdict is found, the verdict of every complete course is
 -- found.
-use Rattle.std.proofs.Common.{ℕ, zero, suc, ◌≡◌, ◌<◌, ◌≤◌, ◌==◌, ◌&&◌, ◌||◌, ◌⊎◌, inl, inr, ⊎_elim, not, nat_lt, if◌then◌else◌, Bool, true, false, Option, Some, None, is_some, MatchOption, List, [], ◌∷◌, length, slice_get, refl, ap, sym, subst, ◌∙◌, arith}
-use Rattle.std.proofs.lemmas.Bool.Decides.{nat_tests}
-use Rattle.std.specs.Option.{unwrap_or}
-use Rattle.tc_rules.specs.Prelude.{Verdict, worse, level_of, Comp, Entry, Op, Target, Phase, Reply, Fault, is_ended, is_fault, is_wake, comp_of, comps, exists, is_in, created, started_on, ends_case, is_over, phase, overall, gives, holds, waiting, waits_in_vain, is_still, is_stuck, awaited, fault, all_exist, answer, plain_answer, wake_reply, is_active, is_active_on, is_run_of, IsLegal, UserVerdict, given}
+use Rattle.std.{proofs.{lemmas.Bool.{both_ways, not-true, or_parts, Decides.nat_tests}, Common.{ℕ, zero, suc, ◌≡◌, ◌<◌, ◌≤◌, ◌==◌, ◌&&◌, ◌||◌, ◌⊎◌, inl, inr, ⊎_elim, not, nat_lt, if◌then◌else◌, Bool, true, false, Option, Some, None, is_some, MatchOption, List, [], ◌∷◌, length, slice_get, refl, ap, sym, subst, ◌∙◌, arith}}, specs.Option.unwrap_or}
+use Rattle.tc_rules.{specs.{Prelude.{Verdict, worse, level_of, Comp, Entry, Op, Target, Phase, Reply, Fault, is_ended, is_fault, is_wake, comp_of, comps, exists, is_in, created, started_on, ends_case, is_over, phase, overall, gives, holds, waiting, waits_in_vain, is_still, is_stuck, awaited, fault, all_exist, answer, plain_answer, wake_reply, is_active, is_active_on, is_run_of, IsLegal, UserVerdict, given}, declared.awaited.Awaited.Awaited}, proofs.Lemmas.{Deciding.{and_right, equal_if}, Going.started_by_entry, Over.{all_over, on_existing}, Stuck.one_false}}
 use Rattle.tc_step.specs.Prelude.{ScriptView}
-use Rattle.tc_rules.specs.declared.awaited.Awaited.{Awaited}
-use Rattle.tc_rules.proofs.Lemmas.{Deciding.and_right, Deciding.equal_if, Going.started_by_entry, Over.all_over, Over.on_existing, Stuck.one_false}
-use Rattle.tc_course.specs.{Inside.call_of, Inside.wake_if, declared.witness.Witness.Witness}
-use Rattle.tc_course.specs.Prelude.{CourseState, stand, goes_on, after_own, after_other_by, is_idle, turn, steps_of, IsTurn, IsCourse, IsComplete, is_found}
-use Rattle.tc_course.proofs.Lemmas.{course_legal, HasTurn, has_turn, turn_of, never_wake, stand_own, stand_comp, stand_unstarted, unstarted, IsAwaitedBy, waiting_wake, wake_after_other, run_in_range}
+use Rattle.tc_course.{specs.{Inside.{call_of, wake_if}, declared.witness.Witness.Witness, Prelude.{CourseState, stand, goes_on, after_own, after_other_by, is_idle, turn, steps_of, IsTurn, IsCourse, IsComplete, is_found}}, proofs.Lemmas.{course_legal, HasTurn, has_turn, turn_of, never_wake, stand_own, stand_comp, stand_unstarted, unstarted, IsAwaitedBy, waiting_wake, wake_after_other, run_in_range}}
 use Rattle.tc_verdict.proofs.Lemmas.Order.{worse_right}
-use Rattle.tc_explore.specs.Inside.{Seen.IsToldBy, Simulation.AreOrdered, Simulation.GoesOn, Simulation.IsAhead, Simulation.IsAlike, Simulation.IsBarredBefore, Simulation.IsBefore, Simulation.IsClosed, Simulation.IsCovered, Simulation.IsEnding, Simulation.IsFollowed, Simulation.IsFor, Simulation.IsLastAt, Simulation.IsLeaving, Simulation.IsParkedAt, Simulation.IsQuietAt, Simulation.IsWakeOf, Simulation.IsWithin, Simulation.WasParked, Simulation.call_at, Simulation.is_barred, Simulation.is_late, Simulation.is_met, Simulation.is_quiet, Simulation.is_spent, Simulation.place_of}
-use Rattle.tc_explore.proofs.{Ahead.active_back, Ahead.active_forth, Ahead.ahead_after, Ahead.ahead_self, Ahead.ahead_step, Ahead.ahead_turn, Ahead.answer_ahead, Ahead.died_before, Ahead.ended_inactive, Ahead.ending_active, Ahead.fault_ahead, Ahead.holds_ahead, Ahead.none_too, Ahead.not_ending_run, Ahead.some_too, Alike.ChangesNothing, Alike.active_alike, Alike.alike_sym, Alike.alike_unchanged, Alike.holds_alike, Alike.is_plain_call, Alike.next_within, Alike.overall_grows, Alike.overall_next, Late.IsGone, Late.IsMetFor, Late.ahead_late, Late.halt_not_ending, Late.late_for, Late.late_free, Late.late_halts, Late.late_reply, Late.met_for, Late.met_holds, Late.met_or_parked, Late.met_reply, Late.other_than_gone, Leaving.Ends, Leaving.after_end, Leaving.ends_no_case, Leaving.running_on, Ordered.order_opening, Places.Spent, Places.barred_sets, Places.behind, Places.followed_self, Places.how_spent, Places.keeps_quiet, Places.leaving_on, Places.leaving_parked, Places.leaving_woken, Places.loud_not_quiet, Places.not_ending, Places.parked, Places.quiet_free, Places.quiet_no_wake, Places.quiet_sets_no_wake, Places.together, Places.woken, Places.woken_behind, Simulation.both, Simulation.ended_kept, Simulation.quiet_within, Simulation.some_if, Simulation.stay, Simulation.stutter, Simulation.unchanged_ended, Simulation.unchanged_quiet, Simulation.unchanged_wait, Simulation.unchanged_wake, Simulation.wait_kept, Simulation.wake_kept}
+use Rattle.tc_explore.{specs.Inside.{Seen.IsToldBy, Simulation.{AreOrdered, GoesOn, IsAhead, IsAlike, IsBarredBefore, IsBefore, IsClosed, IsCovered, IsEnding, IsFollowed, IsFor, IsLastAt, IsLeaving, IsParkedAt, IsQuietAt, IsWakeOf, IsWithin, WasParked, call_at, is_barred, is_late, is_met, is_quiet, is_spent, place_of}}, proofs.{Ahead.{active_back, active_forth, ahead_after, ahead_self, ahead_step, ahead_turn, answer_ahead, died_before, ended_inactive, ending_active, fault_ahead, holds_ahead, none_too, not_ending_run, some_too}, Alike.{ChangesNothing, active_alike, alike_sym, alike_unchanged, holds_alike, is_plain_call, next_within, overall_grows, overall_next}, Late.{IsGone, IsMetFor, ahead_late, halt_not_ending, late_for, late_free, late_halts, late_reply, met_for, met_holds, met_or_parked, met_reply, other_than_gone}, Leaving.{Ends, after_end, ends_no_case, running_on}, Ordered.order_opening, Places.{Spent, barred_sets, behind, followed_self, how_spent, keeps_quiet, leaving_on, leaving_parked, leaving_woken, loud_not_quiet, not_ending, parked, quiet_free, quiet_no_wake, quiet_sets_no_wake, together, woken, woken_behind, or_no}, Simulation.{both, ended_kept, quiet_within, some_if, stay, stutter, unchanged_ended, unchanged_quiet, unchanged_wait, unchanged_wake, wait_kept, wake_kept}}}
 
 -- what is found of a course, or represents it
 pub record IsTold (aim : Verdict) (scripts : List ScriptView) (Seen : List Entry → Type 0) (found : List Witness) (p : List Entry) : Type 0 where
@@ -65,11 +58,7 @@ pub quiet_reply : (w : Verdict) (past : List Entry) (b : ℕ) (op : Op) (c : Com
     (goes_on (plain_answer past b op) ≡ true) × (is_fault (plain_answer past b op) ≡ false)
 quiet_reply w past b (Op.SetVerdict v) c on h = (refl, refl)
 quiet_reply w past b Op.GetVerdict c on h = rw on (refl, refl)
-quiet_reply w past b (Op.Running t) c on h = (refl, refl)
-quiet_reply w past b (Op.Alive t) c on h = (refl, refl)
-quiet_reply w past b (Op.Done t) c on h = (refl, refl)
-quiet_reply w past b (Op.Killed t) c on h = (refl, refl)
-quiet_reply w past b _ c on h = absurd cc
+quiet_reply w past b _ c on h = (cc, cc)
 
 -- so is one that changes nothing
 spent_reply : (q : List Entry) (b : ℕ) (op : Op) (c : Comp) → comp_of q b ≡ Some c → is_spent q op ≡ true →
@@ -84,23 +73,11 @@ spent_reply q b op c on h = by_kind (how_spent q op h)
 -- only a Wait is parked, or a Wake
 pub parks_wait : (w : Verdict) (past : List Entry) (b : ℕ) (op : Op) → is_wake op ≡ false → is_quiet w op ≡ false → plain_answer past b op ≡ Reply.Parked → (k : Bool) × (t : Target) × (op ≡ Op.Wait k t)
 parks_wait w past b (Op.Wait k t) wk q h = (k, t, refl)
-parks_wait w past b (Op.Wake k t) wk q h = absurd cc
-parks_wait w past b Op.GetVerdict wk q h = absurd cc
-parks_wait w past b (Op.SetVerdict v) wk q h = absurd cc
 parks_wait w past b _ wk q h = absurd cc
 
 loud_is_plain : (w : Verdict) (op : Op) → is_wake op ≡ false → is_quiet w op ≡ false → is_plain_call op ≡ true
-loud_is_plain w (Op.Running t) wk q = absurd cc
-loud_is_plain w (Op.Alive t) wk q = absurd cc
-loud_is_plain w (Op.Done t) wk q = absurd cc
-loud_is_plain w (Op.Killed t) wk q = absurd cc
 loud_is_plain w Op.GetVerdict wk q = absurd cc
-loud_is_plain w (Op.Wake k t) wk q = absurd cc
-loud_is_plain w _ wk q = refl
-
-opposed : (t : Bool) → t ≡ true → t ≡ false → ⊥
-opposed true h k = absurd cc
-opposed false h k = absurd cc
+loud_is_plain w _ wk q = cc
 
 never_fault : (past : List Entry) (b : ℕ) (op : Op) → is_plain_call op ≡ true → is_fault (plain_answer past b op) ≡ false
 never_fault past b (Op.Wait k t) h = by_test (holds past (record { killed = k; target = t }))
@@ -108,13 +85,7 @@ never_fault past b (Op.Wait k t) h = by_test (holds past (record { killed = k; t
     by_test : (z : Bool) → is_fault (if z then Reply.Matched else Reply.Parked) ≡ false
     by_test true = refl
     by_test false = refl
-never_fault past b (Op.Running t) h = absurd cc
-never_fault past b (Op.Alive t) h = absurd cc
-never_fault past b (Op.Done t) h = absurd cc
-never_fault past b (Op.Killed t) h = absurd cc
-never_fault past b Op.GetVerdict h = absurd cc
-never_fault past b (Op.Wake k t) h = absurd cc
-never_fault past b _ h = refl
+never_fault past b _ h = cc
 
 pub loud_sets_no_wake : (op : Op) (r : Reply) → goes_on r ≡ true → wake_if op r ≡ None
 loud_sets_no_wake op Reply.Parked h = absurd cc
@@ -126,14 +97,7 @@ idle_never op _ h = refl
 
 pub error_is_worst : (w : Verdict) → worse w Verdict.Error ≡ Verdict.Error
 error_is_worst Verdict.None = refl
-error_is_worst Verdict.Pass = refl
-error_is_worst Verdict.Inconc = refl
-error_is_worst Verdict.Fail = refl
-error_is_worst Verdict.Error = refl
-
-pub or_left : (a b : Bool) → (a || b) ≡ false → a ≡ false
-or_left true b h = absurd cc
-or_left false b h = refl
+error_is_worst _ = refl
 
 exists_back : {aim : Verdict} → {scripts : List ScriptView} {p q : List Entry} → IsAhead aim scripts p q → (c : ℕ) → exists q c ≡ true → exists p c ≡ true
 unfolding exists
@@ -202,7 +166,7 @@ module _ {aim : Verdict} {scripts : List ScriptView} {Seen : List Entry → Type
       record { over = λ o. absurd cc; going = λ o. (q, h.closed, f) }
 
   told_stutter : AtTurn aim scripts Seen found p q e → ChangesNothing p e → IsFor aim scripts q (e ∷ p) → IsTold aim scripts Seen found (e ∷ p)
-  told_stutter h u f = told_stay h (or_left (ends_case e) _ (u.no_halt 0)) f
+  told_stutter h u f = told_stay h (or_parts (ends_case e) _ (u.no_halt 0)).0 f
 
   -- a turn of q that p has too
   told_both : AtTurn aim scripts Seen found p q e → (d : Entry) → IsTurn scripts q d → d.caller.0 < length scripts → goes_on d.reply ≡ true →
@@ -218,10 +182,6 @@ module _ {aim : Verdict} {scripts : List ScriptView} {Seen : List Entry → Type
             let r = c.more (sym over_same ∙ o) inside (e ∷ p) h.course (f o) in
             h.seen r.0 (e ∷ p) r.1 h.course r.2;
       }
-    where
-      or_no : (a : Bool) → (a || false) ≡ a
-      or_no true = refl
-      or_no false = refl
 
   -- an error of both
   told_fault : AtTurn aim scripts Seen found p q e → (d : Entry) → IsTurn scripts q d → d.caller.0 ≡ e.caller.0 → e.caller.0 < length scripts → (x y : Fault) → e.reply ≡ Reply.Fault x → d.reply ≡ Reply.Fault y →
@@ -452,17 +412,11 @@ module _ {aim : Verdict} {scripts : List ScriptView} {Seen : List Entry → Type
 
 in_vain : (past : List Entry) (o : Option Awaited) → waits_in_vain past o ≡ true → (a : Awaited) × (o ≡ Some a) × (holds past a ≡ false)
 in_vain past None h = absurd cc
-in_vain past (Some a) h = (a, refl, not_not (holds past a) h)
-  where
-    not_not : (t : Bool) → not t ≡ true → t ≡ false
-    not_not true k = absurd cc
-    not_not false k = refl
+in_vain past (Some a) h = (a, refl, not-true (holds past a) h)
 
 still_run : (past : List Entry) (b : ℕ) (ph : Phase) → is_run_of b ph ≡ true → is_still past ph ≡ true → waits_in_vain past (waiting past b) ≡ true
 still_run past b (Phase.Running run) r s = let same : run.0 ≡ b = equal_if run.0 b r in subst (λ x. waits_in_vain past (waiting past x) ≡ true) same s
-still_run past b Phase.Inactive r s = absurd cc
-still_run past b Phase.Stopped r s = absurd cc
-still_run past b Phase.Killed r s = absurd cc
+still_run past b _ r s = absurd cc
 
 all_still : (past : List Entry) (c : ℕ) → is_stuck past ≡ true → exists past c ≡ true → is_still past (phase past c) ≡ true
 unfolding is_stuck exists
@@ -552,7 +506,7 @@ module _ {aim : Verdict} {scripts : List ScriptView} {p q : List Entry} where
           let there : exists p met.comp.0 ≡ true = exists_back f.ahead met.comp.0 met.gone.there in
           let yes : holds p (record { killed = met.for_kill; target = Target.One met.comp }) ≡ true = met_holds p met.for_kill met.comp (record { there = there; dead = same ∙ met.gone.dead }) in
           let no : holds p (record { killed = met.for_kill; target = Target.One met.comp }) ≡ false = ap (holds p) a_is ∙ w.2 in
-          opposed _ yes no
+          both_ways _ no yes
       by_phase again (inr k) = let less = lower in again met.comp.0 k (omega (arith, less, l))
 
   stuck_alike : IsCourse scripts p → IsFor aim scripts q p → AreOrdered scripts p q → is_stuck p ≡ true → IsAlike p q
@@ -610,7 +564,7 @@ module _ {aim : Verdict} {scripts : List ScriptView} {p q : List Entry} where
           let a_is = met_awaited q op by.wake w.0 at.wake_of met by.for_it in
           let there : holds q (record { killed = met.for_kill; target = Target.One met.comp }) ≡ true = met_holds q met.for_kill met.comp met.gone in
           let yes : holds p w.0 ≡ true = ap (holds p) (sym a_is) ∙ (holds_alike alike (record { killed = met.for_kill; target = Target.One met.comp }) ∙ there) in
-          opposed (holds p w.0) yes w.2
+          both_ways (holds p w.0) w.2 yes
 
       by_less : (t : Bool) → nat_lt at.place (stand q d.caller.0).called ≡ t → ⊥
       by_less true k = waited_before (grind (arith, nat_tests))
@@ -662,8 +616,8 @@ module _ {aim : Verdict} {scripts : List ScriptView} {Seen : List Entry → Type
       (let was = still_better h (wake_kept (length scripts) p e (Op.Wait k t) (legal_next h) of (rw r refl)) in let grows = overall_grows (length scripts) q d lq in omega (arith, was, grows)) in
       let inside : level_of (overall (d ∷ q)) ≤ level_of aim =
       let same = ap level_of (wait_kept (length scripts) q d (Op.Wake k t) lq to refl) in let was = h.closed.within in omega (arith, same, was) in
-      let ends_e : ends_case e ≡ false = or_left (ends_case e) _ (ue.no_halt 0) in
-      let ends_d : ends_case d ≡ false = or_left (ends_case d) _ (ud.no_halt 0) in
+      let ends_e : ends_case e ≡ false = (or_parts (ends_case e) _ (ue.no_halt 0)).0 in
+      let ends_d : ends_case d ≡ false = (or_parts (ends_case d) _ (ud.no_halt 0)).0 in
       told_both h d turn g.in_range refl ahead.no_better inside (ends_e ∙ sym ends_d) (λ o.
       both scripts p q e d h.course cq h.for refl ahead keeps
       (λ act.
@@ -807,7 +761,7 @@ module _ {aim : Verdict} {scripts : List ScriptView} {Seen : List Entry → Type
       answered none = h.course.0.reply ∙ answer_plain (length scripts) p e.caller.0 e.op active (no_fault_back h none)
 
       goes_not : (act : is_active q e.caller.0 ≡ true) → IsFollowed scripts q e.caller.0 (stand (e ∷ p) e.caller.0) (stand q e.caller.0)
-      goes_not act = absurd (opposed (is_active q e.caller.0) act off)
+      goes_not act = absurd (both_ways (is_active q e.caller.0) off act)
 
       leaving_still : IsLeaving aim scripts q e.caller.0 (after_own e (stand p e.caller.0)) →
           (d : ℕ) (m : IsEnding aim scripts p q d) → (e.caller.0 == m.run.0) ≡ true → IsLeaving aim scripts q m.run.0 (stand (e ∷ p) m.run.0)

@@ -1,15 +1,9 @@
 -- What a stop or kill does that nobody can see: of a component whose run can only set a verdict worse than is looked for.
-use Rattle.std.proofs.Common.{ℕ, ◌≡◌, ◌<◌, ◌==◌, ◌⊎◌, inl, inr, Bool, true, false, Some, None, List, ◌∷◌, length, slice_get, refl, ap, sym, subst, ◌∙◌, arith}
-use Rattle.std.specs.Option.{unwrap_or}
-use Rattle.tc_rules.specs.Prelude.{Run, Verdict, UserVerdict, given, level_of, Comp, Entry, Op, is_ended, is_fault, comp_of, exists, kills, phase, plain_answer, is_active, is_active_on, is_run_of, IsLegal, Group, Phase, Reply}
+use Rattle.std.{proofs.Common.{ℕ, ◌≡◌, ◌<◌, ◌==◌, ◌⊎◌, inl, inr, Bool, true, false, Some, None, List, ◌∷◌, length, slice_get, refl, ap, sym, subst, ◌∙◌, arith}, specs.Option.unwrap_or}
+use Rattle.tc_rules.{specs.{Prelude.{Run, Verdict, UserVerdict, given, level_of, Comp, Entry, Op, is_ended, is_fault, comp_of, exists, kills, phase, plain_answer, is_active, is_active_on, is_run_of, IsLegal, Group, Phase, Reply}, Inside.Step.next_phase}, proofs.Lemmas.{Deciding.{equal_if, self_equal}, Over.{on_existing, stays}, Sound.plain_if}}
 use Rattle.tc_step.specs.Prelude.{ScriptView}
-use Rattle.tc_rules.specs.Inside.Step.{next_phase}
-use Rattle.tc_rules.proofs.Lemmas.{Deciding.equal_if, Deciding.self_equal, Over.on_existing, Over.stays, Sound.plain_if}
-use Rattle.tc_course.specs.Prelude.{stand, steps_of, turn, IsCourse}
-use Rattle.tc_course.specs.Inside.{call_of}
-use Rattle.tc_course.proofs.Lemmas.{course_legal, has_turn, stand_own, stand_other, stand_comp}
-use Rattle.tc_explore.specs.Inside.Simulation.{is_barred, is_late, call_at, IsQuietAt, IsFollowed, IsEnding, IsFor, IsFelling}
-use Rattle.tc_explore.proofs.{Ahead.KeepsQuiet, Ahead.leaving_later, Alike.phase_next, Late.HaltsOne, Late.IsGone, Late.halt_comps, Late.halt_elsewhere, Late.halt_kinds, Late.halt_not_ending, Late.halt_overall, Late.halt_runs, Late.late_if, Late.late_special, Late.stop_halts, Leaving.barred_leaves, Ordered.was_active, Places.ahead, Places.barred_sets, Places.keeps_quiet, Places.spent_late, Places.still_no_fault_by, Simulation.followed_later, Simulation.some_if}
+use Rattle.tc_course.{specs.{Prelude.{stand, steps_of, turn, IsCourse}, Inside.call_of}, proofs.Lemmas.{course_legal, has_turn, stand_own, stand_other, stand_comp}}
+use Rattle.tc_explore.{specs.Inside.Simulation.{is_barred, is_late, call_at, IsQuietAt, IsFollowed, IsEnding, IsFor, IsFelling}, proofs.{Ahead.{KeepsQuiet, leaving_later, phase_later}, Alike.phase_next, Late.{HaltsOne, IsGone, halt_comps, halt_elsewhere, halt_kinds, halt_not_ending, halt_overall, halt_runs, halting, late_if, late_special, stop_halts}, Leaving.barred_leaves, Ordered.was_active, Places.{ahead, barred_sets, keeps_quiet, spent_late, still_no_fault_by}, Simulation.{followed_later, some_if}}}
 
 -- a run with no Wake to come calls its next step
 pub next_of : (scripts : List ScriptView) (q : List Entry) (b : ℕ) (op : Op) → (stand q b).wake ≡ None → turn scripts q b ≡ Some op → call_at scripts b (stand q b) (stand q b).comp (stand q b).called ≡ op
@@ -21,22 +15,16 @@ next_of scripts q b op none turns =
 -- a user sets no error
 below_error : (v : UserVerdict) → level_of (given v) < 4
 below_error UserVerdict.None = omega arith
-below_error UserVerdict.Pass = omega arith
-below_error UserVerdict.Inconc = omega arith
-below_error UserVerdict.Fail = omega arith
+below_error _ = omega arith
 
 running_active : (past : List Entry) (b : ℕ) (c : Comp) (run : Run) → comp_of past b ≡ Some c → phase past c.0 ≡ Phase.Running run → run.0 ≡ b → is_active past b ≡ true
 unfolding is_active
 running_active past b c run on runs same = ap (is_active_on past b) on ∙ (ap (is_run_of b) runs ∙ (ap (λ x. x == b) same ∙ self_equal b))
 
-halt_reply : (q : List Entry) (b : ℕ) (op : Op) (c : Comp) → (op ≡ Op.Stop (Group.One c)) ⊎ (op ≡ Op.Kill (Group.One c)) → plain_answer q b op ≡ Reply.Ok
-halt_reply q b op c (inl is) = ap (plain_answer q b) is
-halt_reply q b op c (inr is) = ap (plain_answer q b) is
-
 pub felling_halts : {aim : Verdict} (scripts : List ScriptView) (q : List Entry) (e : Entry) → IsCourse scripts (e ∷ q) → is_fault e.reply ≡ false → is_ended e.reply ≡ false → (h : IsFelling aim scripts q e.caller.0 e.op) → HaltsOne q e h.comp.0
 felling_halts scripts q e cq plain goes h =
     let is = plain_if (length scripts) q e.caller.0 e.op e.reply goes plain cq.0.reply in
-    stop_halts q e h.comp h.halts_it (is.is ∙ halt_reply q e.caller.0 e.op h.comp h.halts_it) h.felled.not_main
+    stop_halts q e h.comp h.halts_it (is.is ∙ halting (λ o. plain_answer q e.caller.0 o ≡ Reply.Ok) e.op h.comp h.halts_it refl refl) h.felled.not_main
 
 module _ {aim : Verdict} (scripts : List ScriptView) (p q : List Entry) (e : Entry) (cq : IsCourse scripts (e ∷ q)) (plain : is_fault e.reply ≡ false) (goes : is_ended e.reply ≡ false)
     (h : IsFelling aim scripts q e.caller.0 e.op) (f : IsFor aim scripts q p) where
@@ -88,21 +76,9 @@ module _ {aim : Verdict} (scripts : List ScriptView) (p q : List Entry) (e : Ent
         (barred_leaves scripts q h.felled.run.0 (stand p h.felled.run.0) (stand q h.felled.run.0) fol (ap (is_barred aim) (next_of scripts q h.felled.run.0 h.felled.barred.op fol.no_wake h.felled.barred.turns) ∙ h.felled.barred.bars));
   }
 
-  ending_elsewhere : (d : ℕ) → (h.comp.0 == d) ≡ false → (phase p d ≡ phase q d) ⊎ IsEnding aim scripts p q d → (phase p d ≡ phase (e ∷ q) d) ⊎ IsEnding aim scripts p (e ∷ q) d
-  ending_elsewhere d other (inl same) = inl (same ∙ sym (halt_elsewhere (length scripts) lq one d other))
-  ending_elsewhere d other (inr n) = inr (record {
-    run = n.run;
-    running = n.running;
-    ended = halt_elsewhere (length scripts) lq one d other ∙ n.ended;
-    not_main = n.not_main;
-    on = n.on;
-    ordinary = n.ordinary;
-    leaving = leaving_later scripts q (e ∷ q) n.run.0 (stand p n.run.0) keeps n.leaving;
-  })
-
   by_place : (d : ℕ) (t : Bool) → (h.comp.0 == d) ≡ t → (phase p d ≡ phase (e ∷ q) d) ⊎ IsEnding aim scripts p (e ∷ q) d
   by_place d true k = subst (λ x. (phase p x ≡ phase (e ∷ q) x) ⊎ IsEnding aim scripts p (e ∷ q) x) (equal_if h.comp.0 d k) (inr ending_here)
-  by_place d false k = ending_elsewhere d k (f.ahead.phases d)
+  by_place d false k = phase_later scripts p q (e ∷ q) d (halt_elsewhere (length scripts) lq one d k) keeps (f.ahead.phases d)
 
   better : level_of aim < level_of Verdict.Error
   better = let s = barred_sets aim h.felled.barred.op h.felled.barred.bars in let worse = s.worse in let below = below_error s.verdict in omega (arith, worse, below)

@@ -1,15 +1,10 @@
 -- The states that a search keeps: no such case is over, no run has a Wake to come, and each call that continues changes
 -- something.
-use Rattle.std.proofs.Common.{ℕ, ◌≡◌, ◌<◌, ◌+◌, ◌==◌, ◌&&◌, ◌||◌, inl, inr, not, nat_lt, Bool, true, false, Option, Some, None, List, [], ◌∷◌, length, reverse, refl, ap, sym, subst, ◌∙◌, arith}
-use Rattle.std.proofs.lemmas.Bool.Decides.{nat_tests}
-use Rattle.tc_rules.specs.Prelude.{Run, Comp, Entry, Op, Reply, is_ended, is_fault, Case, past_of, comp_of, started_on, first_some, is_comp, is_finish, is_stop_of, is_kill_of, is_stop_case, halts, ends_case, ends_pass, is_over, phase, answer, is_active, is_active_on, is_run_of, IsLegal, Verdict, overall, gives, local, level_of, Target, Phase}
+use Rattle.std.proofs.{lemmas.Bool.{and_parts, not-true, or_from, or_parts, Decides.nat_tests}, Common.{ℕ, ◌≡◌, ◌<◌, ◌+◌, ◌==◌, ◌&&◌, ◌||◌, inl, inr, not, nat_lt, Bool, true, false, Option, Some, None, List, [], ◌∷◌, length, reverse, refl, ap, sym, subst, ◌∙◌, arith}}
+use Rattle.tc_rules.{specs.Prelude.{Run, Comp, Entry, Op, Reply, is_ended, is_fault, Case, past_of, comp_of, started_on, first_some, is_comp, is_finish, is_stop_of, is_kill_of, is_stop_case, halts, ends_case, ends_pass, is_over, phase, answer, is_active, is_active_on, is_run_of, IsLegal, Verdict, overall, gives, local, level_of, Target, Phase, entry_made}, proofs.Lemmas.{Deciding.equal_if, Going.halted_by_entry, Sound.plain_if}}
 use Rattle.tc_step.specs.Prelude.{ScriptView}
-use Rattle.tc_rules.proofs.Lemmas.{Deciding.equal_if, Going.halted_by_entry, Sound.plain_if}
-use Rattle.tc_course.specs.Prelude.{CourseState, stand, goes_on, after_other_by, IsTurn, IsCourse, entry_made, IsOn}
-use Rattle.tc_course.specs.Inside.{ends}
-use Rattle.tc_course.proofs.Lemmas.{course_legal, has_turn, stand_own, stand_other, stand_comp, stand_unstarted, wake_after_other}
-use Rattle.tc_explore.specs.Inside.{Seen.HasNoWake, Seen.IsCalm, Seen.IsCalmAfter, Seen.IsCalmAt, Seen.IsOpen, Seen.IsSame, Seen.IsState, Simulation.IsSilent, Simulation.IsWithin}
-use Rattle.tc_explore.proofs.{Alike.overall_next, Closing.answer_inactive, Closing.loud_sets_no_wake, Closing.not_ended, Closing.or_left, Felling.felling_halts, Late.halt_overall, Late.late_halts, Late.late_reply, Late.met_for, Leaving.running_on, Places.Spent, Places.how_spent, Places.kept_left, Places.neither, Simulation.quiet_within, Simulation.unchanged_quiet, Simulation.unchanged_wait, Simulation.wait_kept}
+use Rattle.tc_course.{specs.{Prelude.{CourseState, stand, goes_on, after_other_by, IsTurn, IsCourse, IsOn}, Inside.ends}, proofs.Lemmas.{below_more, course_legal, has_turn, stand_own, stand_other, stand_comp, stand_unstarted, wake_after_other}}
+use Rattle.tc_explore.{specs.Inside.{Seen.{HasNoWake, IsCalm, IsCalmAfter, IsCalmAt, IsOpen, IsSame, IsState}, Simulation.{IsSilent, IsWithin}}, proofs.{Alike.overall_next, Closing.{answer_inactive, loud_sets_no_wake, not_ended}, Felling.felling_halts, Late.{halt_overall, late_halts, late_reply, met_for}, Leaving.running_on, Places.{Spent, how_spent, kept_left}, Simulation.{quiet_within, unchanged_quiet, unchanged_wait, wait_kept}}}
 
 pub on_not_ended : (r : Reply) → goes_on r ≡ true → is_ended r ≡ false
 on_not_ended Reply.Ended h = absurd cc
@@ -31,15 +26,15 @@ silent_no_case : {aim : Verdict} (scripts : List ScriptView) (q : List Entry) (e
 silent_no_case {aim} scripts q e cq plain goes (inl spent) = by_kind (how_spent q e.op spent)
   where
     by_kind : Spent q e.op → ends_case e ≡ false
-    by_kind (inl quiet) = or_left (ends_case e) _ ((unchanged_quiet (overall q) q e quiet plain).no_halt 0)
+    by_kind (inl quiet) = (or_parts (ends_case e) _ ((unchanged_quiet (overall q) q e quiet plain).no_halt 0)).0
     by_kind (inr (inl late)) =
         let is = plain_if (length scripts) q e.caller.0 e.op e.reply goes plain cq.0.reply in
         (late_halts q q e late (is.is ∙ late_reply q q e.caller.0 e.op late)).no_case
     by_kind (inr (inr met)) =
         let m = met_for q e.op met in
-        or_left (ends_case e) _ ((unchanged_wait q e (Op.Wake m.for_kill (Target.One m.comp)) (record { killed = m.for_kill; target = Target.One m.comp; waits = m.waits; wakes = refl }) plain).no_halt 0)
+        (or_parts (ends_case e) _ ((unchanged_wait q e (Op.Wake m.for_kill (Target.One m.comp)) (record { killed = m.for_kill; target = Target.One m.comp; waits = m.waits; wakes = refl }) plain).no_halt 0)).0
 silent_no_case {aim} scripts q e cq plain goes (inr (inr (inr felling))) = (felling_halts scripts q e cq plain goes felling).no_case
-silent_no_case {aim} scripts q e cq plain goes (inr (inr (inl quiet))) = or_left (ends_case e) _ ((unchanged_quiet aim q e quiet plain).no_halt 0)
+silent_no_case {aim} scripts q e cq plain goes (inr (inr (inl quiet))) = (or_parts (ends_case e) _ ((unchanged_quiet aim q e quiet plain).no_halt 0)).0
 silent_no_case {aim} scripts q e cq plain goes (inr (inl end)) = rw (end.finish, end.not_main, plain, goes) refl
 
 finish_gives : (op : Op) (r : Reply) → op ≡ Op.Finish → is_fault r ≡ false → gives op r ≡ []
@@ -129,16 +124,6 @@ state_same {aim} scripts t u n h s =
     let past : past_of u ≡ past_of t = ap reverse h in
     record { opened = open_same scripts t u n h s.opened; calm = subst (IsCalm scripts) (sym past) s.calm; within = subst (IsWithin aim) (sym past) s.within }
 
-pub same_self : (past : List Entry) → HasNoWake past → IsSame past past
-same_self past h = record {
-  alike = record { comps_same = refl; phase_same = λ c. refl; kind_same = λ c. refl; comp_same = λ b. refl };
-  overall_same = refl;
-  stands = λ b act. (refl, h b);
-}
-
-pub state_self : {aim : Verdict} (scripts : List ScriptView) (t : Case) → IsState aim scripts t → IsSame (past_of t) (past_of t)
-state_self scripts t s = same_self (past_of t) s.opened.no_wake
-
 pub within_state : {aim : Verdict} (scripts : List ScriptView) (t : Case) → IsState aim scripts t → IsWithin aim (past_of t)
 within_state scripts t s = s.within
 
@@ -149,7 +134,7 @@ pub within_opening : (aim : Verdict) (t : Case) → past_of t ≡ [] → IsWithi
 unfolding overall local
 within_opening aim t none = rw none (omega arith)
 
-pub ruleset keeping_rules = (on_open, open_state, on_state, open_same, state_same, state_self, within_state, within_same, within_opening)
+pub ruleset keeping_rules = (on_open, open_state, on_state, open_same, state_same, within_state, within_same, within_opening)
 
 pub ruleset call_rules = (on_open, open_silent, within_silent, on_not_ended)
 
@@ -164,13 +149,7 @@ abbrev pub AreCalmAfter : List ScriptView → Case → Case → ℕ → Type 0
 AreCalmAfter scripts t v k = (past_of v ≡ past_of t) × ((b : ℕ) → b < k → IsCalmAt scripts (past_of t) b)
 
 pub calm_more : (scripts : List ScriptView) (t u v : Case) (k : ℕ) → AreCalmAfter scripts t u k → IsCalmAfter scripts u v k → AreCalmAfter scripts t v (k + 1)
-calm_more scripts t u v k h last = (last.0 ∙ h.0, λ b less. by_place b less (nat_lt b k) refl)
-  where
-    by_place : (b : ℕ) → b < k + 1 → (s : Bool) → nat_lt b k ≡ s → IsCalmAt scripts (past_of t) b
-    by_place b less true j = h.1 b (grind (arith, nat_tests))
-    by_place b less false j =
-        let same : k ≡ b = grind (arith, nat_tests) in
-        subst (λ p. IsCalmAt scripts p b) h.0 (subst (IsCalmAt scripts (past_of u)) same last.1)
+calm_more scripts t u v k h last = (last.0 ∙ h.0, below_more (IsCalmAt scripts (past_of t)) k h.1 (subst (λ p. IsCalmAt scripts p k) h.0 last.1))
 
 pub state_of : {aim : Verdict} (scripts : List ScriptView) (t : Case) → IsOpen scripts t → IsCalm scripts (past_of t) → IsWithin aim (past_of t) → IsState aim scripts t
 state_of scripts t o calm within = record { opened = o; calm = calm; within = within }
@@ -181,7 +160,7 @@ pub ruleset calm_rules = (calm_then, state_of)
 
 ends_none : (o : Option Comp) (e : Entry) (c : Comp) → o ≡ Some c → is_ended e.reply ≡ false → halts (Some c) e c.0 ≡ false → ends o e ≡ false
 unfolding ends_pass
-ends_none o e c same goes none = subst (λ x. ends x e ≡ false) (sym same) (neither (is_ended e.reply) (halts (Some c) e c.0) goes none)
+ends_none o e c same goes none = subst (λ x. ends x e ≡ false) (sym same) (or_from (is_ended e.reply) (halts (Some c) e c.0) goes none)
 
 -- the pass of a run that continues has not ended
 pub active_stays : (scripts : List ScriptView) (past : List Entry) (b : ℕ) → IsCourse scripts past → is_active past b ≡ true → (stand past b).left ≡ false
@@ -190,11 +169,6 @@ active_stays scripts (e ∷ past) b course act = by_comp (active_stays scripts p
   where
     legal : IsLegal (length scripts) (e ∷ past)
     legal = course_legal scripts (e ∷ past) course
-
-    and_both : (x y : Bool) → (x && not y) ≡ true → (x ≡ true) × (y ≡ false)
-    and_both true false h = (refl, refl)
-    and_both true true h = absurd cc
-    and_both false y h = absurd cc
 
     never_left : (o w : Option Comp) (s : CourseState) → started_on e b ≡ w → (after_other_by o e b s).left ≡ s.left
     never_left (Some c) w s k = refl
@@ -218,7 +192,9 @@ active_stays scripts (e ∷ past) b course act = by_comp (active_stays scripts p
     by_comp ih (Some c) some = by_caller (e.caller.0 == b) refl
       where
         were : (is_active past b ≡ true) × (halts (comp_of past e.caller.0) e c.0 ≡ false)
-        were = and_both (is_active past b) (halts (comp_of past e.caller.0) e c.0) (sym (halted_by_entry (length scripts) past e b c legal some) ∙ act)
+        were =
+            let both = and_parts (is_active past b) (not (halts (comp_of past e.caller.0) e c.0)) (sym (halted_by_entry (length scripts) past e b c legal some) ∙ act) in
+            (both.0, not-true _ both.1)
 
         before : (stand past b).left ≡ false
         before = ih were.0
@@ -288,12 +264,8 @@ main_begins = refl
 pub main_goes : (scripts : List ScriptView) (past : List Entry) → IsCourse scripts past → is_over past ≡ false → is_active past 0 ≡ true
 main_goes scripts [] course going = main_begins
 main_goes scripts (e ∷ past) course going =
-    let both = or_both (ends_case e) (is_over past) going in
+    let both = or_parts (ends_case e) (is_over past) going in
     let before = main_goes scripts past course.1 both.1 in
     let legal = course_legal scripts (e ∷ past) course in
     halted_by_entry (length scripts) past e 0 (record { 0 = 0 }) legal (comp_main past)
     ∙ rw (before, no_main_halt (length scripts) past e legal before both.0) refl
-  where
-    or_both : (a b : Bool) → (a || b) ≡ false → (a ≡ false) × (b ≡ false)
-    or_both true b h = absurd cc
-    or_both false b h = (refl, h)

@@ -1,14 +1,9 @@
 -- The states that a search keeps, and how many calls it counts.
-use Rattle.std.proofs.Common.{ℕ, ◌≡◌, ◌==◌, ◌<◌, Bool, true, false, List, [], length, get_or, replicate, set, refl, ap, sym, ◌∙◌, arith, zero, suc, ◌+◌, ◌≤◌, inl, inr, max, nat_eq, nat_le, All, Option, Some, None, ◌∷◌, ◌++◌, map, reverse, slice_get, rules, nat_cmp, subst, append-nil}
-use Rattle.std.proofs.lemmas.{Bool.Decides.nat_tests, List.Elements.All-map, List.Elements.All-nil, List.Elements.All-push, List.Elements.All-same, List.Elements.All-weaker, List.get_or-map, List.get_or-replicate, List.get_or-set_other, List.get_or-set_same, List.length-map, List.length-replicate, List.length-set, Option.get_or_from_slice_get}
-use Rattle.std.specs.{Cmp.Lexicographic.pointwise, List.IsDistinct, Ordering.ord_max}
+use Rattle.std.{proofs.{Common.{ℕ, ◌≡◌, ◌==◌, ◌<◌, Bool, true, false, List, [], length, get_or, replicate, set, refl, ap, sym, ◌∙◌, arith, zero, suc, ◌+◌, ◌≤◌, inl, inr, max, nat_eq, nat_le, All, Option, Some, None, ◌∷◌, ◌++◌, map, reverse, slice_get, rules, nat_cmp, subst, append-nil}, lemmas.{Bool.Decides.nat_tests, List.{Elements.{All-map, All-nil, All-push, All-same, All-weaker}, get_or-map, get_or-replicate, get_or-set_other, get_or-set_same, length-map, length-replicate, length-set}, Option.get_or_from_slice_get}}, specs.{Cmp.Lexicographic.pointwise, List.IsDistinct, Ordering.ord_max}}
 use Rattle.tc_step.specs.Prelude.{ScriptView}
-use Rattle.tc_rules.specs.Prelude.{Case, past_of, Entry, Verdict}
-use Rattle.tc_rules.proofs.Lemmas.Deciding.{equal_if, self_equal}
-use Rattle.tc_course.specs.Prelude.{carried_on, IsOn, IsCourse}
-use Rattle.tc_course.specs.declared.witness.Witness.{Witness}
-use Rattle.tc_explore.specs.{Found.AreAllMet, Found.AreCourses, Found.AreCovered, Found.AreReached, Found.Covers, Inside.Seen.AreKept, Inside.Seen.AreKeyed, Inside.Seen.IsCountedTo, Inside.Seen.IsLonger, Inside.Seen.IsNoLess, Inside.Seen.IsSameCase, Inside.Seen.IsState, Inside.Seen.IsWith, Inside.Seen.Reaches, Inside.Twins.key_of, declared.findings.Findings.Findings, declared.search.Met.Met}
-use Rattle.tc_explore.proofs.{Keeping.state_same, Keys.AreApart, Keys.keys_apart}
+use Rattle.tc_rules.{specs.Prelude.{Case, past_of, Entry, Verdict}, proofs.Lemmas.Deciding.{equal_if, self_equal}}
+use Rattle.tc_course.specs.{Prelude.{carried_on, IsOn, IsCourse}, declared.witness.Witness.Witness}
+use Rattle.tc_explore.{specs.{Found.{AreAllMet, AreCourses, AreCovered, AreReached, Covers}, Inside.{Seen.{AreKept, IsCountedTo, IsLonger, IsNoLess, IsSameCase, IsState, IsWith, Reaches}, Twins.{AreKeyed, key_of}}, declared.{findings.Findings.Findings, search.Met.Met}}, proofs.{Keeping.state_same, Keys.{AreApart, keys_apart}}}
 
 -- nothing was called at the opening
 pub reached_none : (scripts : List ScriptView) → AreReached scripts (replicate (length scripts) 0)
@@ -123,14 +118,14 @@ pub longer_with : (before after : List Case) (t : Case) → IsWith before t afte
 longer_with before after t (inl same) = ([], same ∙ sym (append-nil before))
 longer_with before after t (inr more) = (more.0 ∷ [], more.2)
 
-pub keyed_none : (scripts : List ScriptView) (met : Met) → met.states.items ≡ [] → met.keys.keys ≡ [] → AreKeyed scripts met
-keyed_none scripts met none no_key = rw (none, no_key) refl
+pub keyed_none : (of : List Entry → List ℕ) (met : Met) → met.states.items ≡ [] → met.keys.keys ≡ [] → AreKeyed of met
+keyed_none of met none no_key = rw (none, no_key) refl
 
 -- there is a key for each state
-pub as_many_keys : (scripts : List ScriptView) (met : Met) → AreKeyed scripts met → length met.keys.keys ≡ length met.states.items
-as_many_keys scripts met keyed = sym (length-map met.keys.keys (λ k. k.items)) ∙ (ap length keyed ∙ length-map met.states.items (λ t. key_of (length scripts) (past_of t)))
+pub as_many_keys : (of : List Entry → List ℕ) (met : Met) → AreKeyed of met → length met.keys.keys ≡ length met.states.items
+as_many_keys of met keyed = sym (length-map met.keys.keys (λ k. k.items)) ∙ (ap length keyed ∙ length-map met.states.items (λ t. of (past_of t)))
 
-pub kept_none : {aim : Verdict} (scripts : List ScriptView) (met : Met) (found : Findings) → met.states.items ≡ [] → AreKeyed scripts met → AreKept aim scripts met found
+pub kept_none : {aim : Verdict} (scripts : List ScriptView) (met : Met) (found : Findings) → met.states.items ≡ [] → AreKeyed (key_of (length scripts)) met → AreKept aim scripts met found
 kept_none {aim} scripts met found none keyed = record {
   few = let size : length met.states.items ≡ 0 = ap length none in omega (arith, size);
   each = All-same (λ t. IsState aim scripts t) met.states.items [] none (All-nil (λ t. IsState aim scripts t));
@@ -153,7 +148,7 @@ all_with P before after t keeps (inr more) all one = All-same P after (before ++
 
 -- one state more, that is counted
 pub kept_with : {aim : Verdict} (scripts : List ScriptView) (met after : Met) (f g : Findings) (t : Case) → AreKept aim scripts met f → IsNoLess f.reached.items g.reached.items → IsState aim scripts t → Covers g.reached.items (past_of t) →
-    IsWith met.states.items t after.states.items → AreKeyed scripts after → after.limit ≡ met.limit → length after.states.items ≤ met.limit → AreKept aim scripts after g
+    IsWith met.states.items t after.states.items → AreKeyed (key_of (length scripts)) after → after.limit ≡ met.limit → length after.states.items ≤ met.limit → AreKept aim scripts after g
 kept_with {aim} scripts met after f g t kept more state covers with keyed limit within =
     let now = kept_more scripts met f g more kept in
     record {
@@ -163,13 +158,10 @@ kept_with {aim} scripts met after f g t kept more state covers with keyed limit 
       counted = all_with (λ u. Covers g.reached.items (past_of u)) met.states.items after.states.items t (λ u same. subst (λ h. Covers g.reached.items (reverse h)) (sym same.entries)) with now.counted covers;
     }
 
-pub kept_keyed : {aim : Verdict} (scripts : List ScriptView) (met : Met) (found : Findings) → AreKept aim scripts met found → AreKeyed scripts met
-kept_keyed scripts met found kept = kept.keyed
-
 pub kept_states : {aim : Verdict} (scripts : List ScriptView) (met : Met) (found : Findings) → AreKept aim scripts met found → All (λ t. IsState aim scripts t) met.states.items
 kept_states scripts met found kept = kept.each
 
-pub ruleset kept_rules = (with_one, kept_none, kept_more, kept_states, kept_keyed, longer_with, covered_more, no_less_self, no_less_then)
+pub ruleset kept_rules = (with_one, kept_none, kept_more, kept_states, longer_with, covered_more, no_less_self, no_less_then)
 
 -- ---- what is told
 
@@ -196,11 +188,11 @@ pub no_courses : (scripts : List ScriptView) → AreCourses scripts 0 []
 no_courses scripts = record { as_many = refl; each = All-nil (IsCourse scripts); once = λ i j d near_i near_j same. absurd (omega arith) }
 
 -- the courses of states with distinct keys
-pub courses_of : (scripts : List ScriptView) (key : List Entry → List ℕ) (met : Met) → map (λ k. k.items) met.keys.keys ≡ map (λ t. key (past_of t)) met.states.items
+pub courses_of : (scripts : List ScriptView) (key : List Entry → List ℕ) (met : Met) → AreKeyed key met
     → IsDistinct (λ x y. pointwise nat_eq x.items y.items) met.keys.keys → All (λ t. IsCourse scripts (past_of t)) met.states.items
     → AreCourses scripts (length met.keys.keys) (map past_of met.states.items)
 courses_of scripts key met keyed distinct each = record {
-  as_many = length-map met.states.items past_of ∙ sym (sym (length-map met.keys.keys (λ k. k.items)) ∙ (ap length keyed ∙ length-map met.states.items (λ t. key (past_of t))));
+  as_many = length-map met.states.items past_of ∙ sym (as_many_keys key met keyed);
   each = All-map (IsCourse scripts) past_of met.states.items each;
   once = once_of met.states.items (keys_apart (λ k. k.items) key met.keys.keys met.states.items keyed distinct);
 }
@@ -230,18 +222,10 @@ met_max scripts before after m n k most more one other = by_test (nat_le m n) re
 
 -- it is at most what both are, and that where the second is
 pub most_within : (m n k limit : ℕ) → k ≡ max m n → m ≤ limit → n ≤ limit → k ≤ limit
-most_within m n k limit most one other = by_test (nat_le m n) refl
-  where
-    by_test : (t : Bool) → nat_le m n ≡ t → k ≤ limit
-    by_test true h = let is : n ≡ max m n = grind (arith, nat_tests) in omega (arith, is, most, other)
-    by_test false h = let is : m ≡ max m n = grind (arith, nat_tests) in omega (arith, is, most, one)
+most_within m n k limit most one other = omega arith
 
 pub most_full : (m n k limit : ℕ) → k ≡ max m n → m ≤ limit → n ≡ limit → k ≡ limit
-most_full m n k limit most one other = by_test (nat_le m n) refl
-  where
-    by_test : (t : Bool) → nat_le m n ≡ t → k ≡ limit
-    by_test true h = let is : n ≡ max m n = grind (arith, nat_tests) in most ∙ (sym is ∙ other)
-    by_test false h = let less : n < m = grind (arith, nat_tests) in absurd (omega (arith, less, one, other))
+most_full m n k limit most one other = omega arith
 
 pub met_of : {aim : Verdict} (scripts : List ScriptView) (met : Met) (found : Findings) → AreKept aim scripts met found → IsDistinct (λ x y. pointwise nat_eq x.items y.items) met.keys.keys → AreAllMet scripts found.reached.items (length met.keys.keys)
 met_of {aim} scripts met found kept distinct = record {

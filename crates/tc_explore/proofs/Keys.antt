@@ -1,14 +1,9 @@
 -- Two states of one key are the same: what the keys of states say of them.
-use Rattle.std.proofs.Common.{ℕ, zero, suc, ◌≡◌, ◌+◌, ◌==◌, ◌<◌, ◌≤◌, Bool, true, false, Option, Some, None, List, [], ◌∷◌, ◌++◌, ◌||◌, if◌then◌else◌, nat_eq, All, length, map, slice_get, refl, ap, sym, subst, ◌∙◌, arith, append-nil, append_assoc}
-use Rattle.std.proofs.lemmas.{Bool.Decides.nat_tests, List.length-map, Option.get_or_from_slice_get, Option.slice_get_within}
-use Rattle.std.specs.{Cmp.Lexicographic.other_text, Cmp.Lexicographic.pointwise, Cmp.Lexicographic.same_text, List.AllByRecursion, List.IsDistinct, List.flat_map, List.list_any, List.range_with_len}
-use Rattle.tc_rules.specs.Prelude.{level_of, Comp, Entry, Op, Case, past_of, components, is_alive_type, phase_if_any, overall, is_active, Verdict}
+use Rattle.std.{proofs.{Common.{ℕ, zero, suc, ◌≡◌, ◌+◌, ◌==◌, ◌<◌, ◌≤◌, Bool, true, false, Option, Some, None, List, [], ◌∷◌, ◌++◌, ◌||◌, if◌then◌else◌, nat_eq, All, length, map, slice_get, refl, ap, sym, subst, ◌∙◌, arith, append-nil, append_assoc}, lemmas.{Bool.Decides.nat_tests, List.{length-map, map_push}, Option.{get_or_from_slice_get, slice_get_within}}}, specs.{Cmp.Lexicographic.{other_text, pointwise, same_text}, List.{AllByRecursion, IsDistinct, flat_map, list_any, range_with_len}}}
+use Rattle.tc_rules.{specs.Prelude.{level_of, Comp, Entry, Op, Case, past_of, components, is_alive_type, phase_if_any, overall, is_active, Verdict}, proofs.Lemmas.Deciding.equal_if}
 use Rattle.tc_step.specs.Prelude.{ScriptView}
-use Rattle.tc_rules.proofs.Lemmas.Deciding.{equal_if}
-use Rattle.tc_course.specs.Prelude.{CourseState, stand, IsCourse}
-use Rattle.tc_course.proofs.Lemmas.{course_legal, run_in_range}
-use Rattle.tc_explore.specs.{Inside.Seen.AreKeyed, Inside.Seen.IsSame, Inside.Seen.IsSeen, Inside.Seen.IsState, Inside.Simulation.IsAlike, Inside.Twins.comp_code, Inside.Twins.comp_key, Inside.Twins.key_of, Inside.Twins.number_of, Inside.Twins.phase_code, Inside.Twins.run_key, Inside.Twins.run_key_of, declared.search.Met.Met}
-use Rattle.tc_explore.proofs.{Keeping.active_stays, Sameness.alike_of, Sameness.same_comp, Sameness.same_phase, Sameness.same_verdict, Simulation.some_if}
+use Rattle.tc_course.{specs.Prelude.{CourseState, stand, IsCourse}, proofs.Lemmas.{course_legal, run_in_range}}
+use Rattle.tc_explore.{specs.{Inside.{Seen.{IsSame, IsSeen, IsState}, Simulation.IsAlike, Twins.{IsKnown, comp_code, comp_key, key_of, number_of, phase_code, run_key, run_key_of}}, declared.search.Met.Met}, proofs.{Keeping.active_stays, Sameness.{alike_of, same_comp, same_phase, same_verdict}, Simulation.some_if}}
 
 -- ---- lists that begin alike
 
@@ -202,6 +197,10 @@ key_found items key k (x ∷ ks) (t ∷ ts) h is =
     by_first later first true e = (0, t, refl, same_text k (items x) (sym e) ∙ first)
     by_first later first false e = let r = later (ap (λ b. b || list_any (λ y. pointwise nat_eq k (items y)) ks) (sym e) ∙ is) in (suc r.0, r.1, r.2, r.3)
 
+-- one state more, and its key
+pub keyed_more : {V : Type 0} (items : V → List ℕ) (of : Case → List ℕ) (ks : List V) (ts : List Case) (k : V) (t : Case) → map items ks ≡ map of ts → items k ≡ of t → map items (ks ++ k ∷ []) ≡ map of (ts ++ t ∷ [])
+keyed_more items of ks ts k t all one = rw (map_push items ks k, map_push of ts t, all, one) refl
+
 not_later : {V : Type 0} (items : V → List ℕ) (key : Case → List ℕ) (a : List ℕ) (ks : List V) (ts : List Case) (j : ℕ) (r : Case) → map items ks ≡ map key ts → AllByRecursion (λ y. pointwise nat_eq a (items y) ≡ false) ks →
     slice_get ts j ≡ Some r → a ≡ key r → ⊥
 not_later items key a ks [] j r h all there same = absurd cc
@@ -236,9 +235,8 @@ keys_apart items key (x ∷ ks) (t ∷ ts) h d (suc i) zero s r here there same 
     absurd (not_later items (λ u. key (past_of u)) (items x) ks ts i s others d.0 here (first ∙ ap key (ap past_of is ∙ sym same)))
 
 -- what a key that is known leads to
-pub seen_by_key : {aim : Verdict} (scripts : List ScriptView) (met : Met) (t : Case) (k : List ℕ) → 1 ≤ length scripts → IsState aim scripts t → All (λ u. IsState aim scripts u) met.states.items → AreKeyed scripts met → k ≡ key_of (length scripts) (past_of t) →
-    list_any (λ x. pointwise nat_eq k x.items) met.keys.keys ≡ true → IsSeen met.states.items (past_of t)
-seen_by_key {aim} scripts met t k some state states keyed is known =
-    let f = key_found (λ x. x.items) (λ u. key_of (length scripts) (past_of u)) k met.keys.keys met.states.items keyed known in
-    let there : IsState aim scripts f.1 = subst (IsState aim scripts) (get_or_from_slice_get met.states.items f.0 f.1 f.1 f.2) (states f.0 f.1 (slice_get_within met.states.items f.0 f.1 f.2)) in
-    (f.0, f.1, f.2, same_by_key scripts t f.1 some state there (sym is ∙ f.3))
+pub seen_by_key : {aim : Verdict} (scripts : List ScriptView) (states : List Case) (t : Case) → 1 ≤ length scripts → IsState aim scripts t → All (λ u. IsState aim scripts u) states → IsKnown (key_of (length scripts)) states (past_of t) →
+    IsSeen states (past_of t)
+seen_by_key {aim} scripts states t some state each f =
+    let there : IsState aim scripts f.1 = subst (IsState aim scripts) (get_or_from_slice_get states f.0 f.1 f.1 f.2) (each f.0 f.1 (slice_get_within states f.0 f.1 f.2)) in
+    (f.0, f.1, f.2, same_by_key scripts t f.1 some state there f.3)

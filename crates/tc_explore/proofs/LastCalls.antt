@@ -1,13 +1,9 @@
 -- The last calls of a case that is over: they are replied Ended, and after them no run has a call left.
-use Rattle.std.proofs.Common.{ℕ, ◌≡◌, ◌<◌, ◌≤◌, ◌+◌, ◌==◌, ◌||◌, inl, inr, nat_lt, Bool, true, false, Option, Some, None, List, [], ◌∷◌, length, refl, ap, sym, subst, ◌∙◌, arith}
-use Rattle.std.proofs.lemmas.Bool.Decides.{nat_tests}
-use Rattle.tc_rules.specs.Prelude.{Run, Comp, Entry, Op, Case, past_of, comp_of, is_comp, started_on, ends_case, ends_pass, is_over, IsLegal, local, local_if_any, overall, gives, answer, Reply}
+use Rattle.std.proofs.{lemmas.Bool.{or_right, Decides.nat_tests}, Common.{ℕ, ◌≡◌, ◌<◌, ◌≤◌, ◌+◌, ◌==◌, ◌||◌, inl, inr, nat_lt, Bool, true, false, Option, Some, None, List, [], ◌∷◌, length, refl, ap, sym, subst, ◌∙◌, arith}}
+use Rattle.tc_rules.{specs.Prelude.{Run, Comp, Entry, Op, Case, past_of, comp_of, is_comp, started_on, ends_case, ends_pass, is_over, IsLegal, local, local_if_any, overall, gives, answer, Reply, entry_made}, proofs.Lemmas.{Deciding.{equal_if, if_same}, Over.all_over}}
 use Rattle.tc_step.specs.Prelude.{ScriptView}
-use Rattle.tc_rules.proofs.Lemmas.{Deciding.equal_if, Deciding.if_same, Over.all_over}
-use Rattle.tc_course.specs.Prelude.{CourseState, stand, after_own, after_other_by, turn, turn_on, steps_of, is_idle, IsTurn, IsCourse, IsComplete, entry_made, IsOn, CannotGo}
-use Rattle.tc_course.proofs.Lemmas.{course_legal, has_turn, stand_own}
-use Rattle.tc_explore.specs.Inside.Seen.{IsStepped, HasSameLocals}
-use Rattle.tc_explore.proofs.{Alike.alike_unchanged, Alike.exists_same, Alike.local_next, Alike.overall_next, Simulation.unchanged_ended}
+use Rattle.tc_course.{specs.Prelude.{CourseState, stand, after_own, after_other_by, turn, turn_on, steps_of, is_idle, IsTurn, IsCourse, IsComplete, IsOn, CannotGo}, proofs.Lemmas.{course_legal, has_turn, stand_own}}
+use Rattle.tc_explore.{specs.Inside.Seen.{IsStepped, HasSameLocals}, proofs.{Alike.{alike_unchanged, exists_same, local_next, overall_next}, Simulation.unchanged_ended}}
 
 -- ---- local verdicts
 
@@ -41,16 +37,12 @@ pub turn_by : (scripts : List ScriptView) (p q : List Entry) (b : ℕ) → stand
 unfolding turn
 turn_by scripts p q b same = ap (λ (s : CourseState). turn_on s.comp (steps_of scripts b) s) same
 
-or_true : (t : Bool) → (t || true) ≡ true
-or_true true = refl
-or_true false = refl
-
 own_done : (scripts : List ScriptView) (q : List Entry) (e : Entry) → IsTurn scripts q e → e.reply ≡ Reply.Ended → turn scripts (e ∷ q) e.caller.0 ≡ None
 unfolding ends_pass
 own_done scripts q e mine r =
     let t = has_turn scripts q e.caller.0 e.op mine.turn in
     let own = stand_own q e e.caller.0 refl in
-    let left : (after_own e (stand q e.caller.0)).left ≡ true = rw (t.on, r) (or_true (stand q e.caller.0).left) in
+    let left : (after_own e (stand q e.caller.0)).left ≡ true = rw (t.on, r) (or_right (stand q e.caller.0).left true refl) in
     turn_left scripts (e ∷ q) e.caller.0 t.me (ap (λ (s : CourseState). s.comp) own ∙ t.on) (ap (λ (s : CourseState). s.left) own ∙ left)
 
 other_done : (scripts : List ScriptView) (q : List Entry) (e : Entry) (b : ℕ) → (e.caller.0 == b) ≡ false → e.reply ≡ Reply.Ended → turn scripts (e ∷ q) b ≡ turn scripts q b

@@ -1,13 +1,9 @@
 -- What a stop or a kill of a component does that is killed already, and a wait for it.
-use Rattle.std.proofs.Common.{ℕ, ◌≡◌, ◌==◌, ◌&&◌, ◌||◌, ◌⊎◌, inl, inr, not, if◌then◌else◌, Bool, true, false, Option, Some, None, List, ◌∷◌, length, refl, ap, sym, subst, ◌∙◌, arith}
-use Rattle.tc_rules.specs.Prelude.{Run, Comp, Entry, Op, Phase, is_ended, is_ok, is_wake, comps, comp_of, exists, is_alive_type, created, started_on, starts_on, first_some, add_new, halts, kills, ends_case, ends_pass, phase, phase_if_any, start_in, is_killed, done, killed, holds, overall, gives, special_fault, answer, plain_answer, is_active, is_active_on, is_run_of, IsLegal, level_of, Verdict, Group, Target, Reply}
+use Rattle.std.proofs.{lemmas.Bool.{and_parts, not-true, or_from}, Common.{ℕ, ◌≡◌, ◌==◌, ◌&&◌, ◌||◌, ◌⊎◌, inl, inr, not, if◌then◌else◌, Bool, true, false, Option, Some, None, List, ◌∷◌, length, refl, ap, sym, subst, ◌∙◌, arith}}
+use Rattle.tc_rules.{specs.{Prelude.{Run, Comp, Entry, Op, Phase, is_ended, is_ok, is_wake, comps, comp_of, exists, is_alive_type, created, started_on, starts_on, first_some, add_new, halts, kills, ends_case, ends_pass, phase, phase_if_any, start_in, is_killed, done, killed, holds, overall, gives, special_fault, answer, plain_answer, is_active, is_active_on, is_run_of, IsLegal, level_of, Verdict, Group, Target, Reply}, Inside.Step.{next_local, next_phase}, declared.component_state.ComponentState.ComponentState}, proofs.Lemmas.{Deciding.{equal_if, ok_is, self_equal}, Over.stays, Sound.{IsPlain, no_special, plain_if, startable}}}
 use Rattle.tc_step.specs.Prelude.{ScriptView}
-use Rattle.tc_rules.specs.{Inside.Step.next_local, Inside.Step.next_phase, declared.component_state.ComponentState.ComponentState}
-use Rattle.tc_rules.proofs.Lemmas.{Deciding.equal_if, Deciding.ok_is, Deciding.self_equal, Over.stays, Sound.IsPlain, Sound.no_special, Sound.plain_if, Sound.startable}
-use Rattle.tc_course.specs.Prelude.{stand, IsCourse}
-use Rattle.tc_course.specs.Inside.{ends, wake_if}
-use Rattle.tc_explore.specs.Inside.Simulation.{IsAlike, is_gone, is_late, is_met, IsLeaving, IsEnding, IsAhead, is_barred}
-use Rattle.tc_explore.proofs.{Ahead.leaving_other, Alike.first_kept, Alike.fresh, Alike.kept_by, Alike.kind_kept, Alike.overall_next, Alike.phase_next}
+use Rattle.tc_course.specs.{Prelude.{stand, IsCourse}, Inside.{ends, wake_if}}
+use Rattle.tc_explore.{specs.Inside.Simulation.{IsAlike, is_gone, is_late, is_met, IsLeaving, IsEnding, IsAhead, is_barred}, proofs.{Ahead.leaving_other, Alike.{first_kept, fresh, kept_by, kind_kept, overall_next, phase_next}}}
 
 -- ---- the component of the call
 
@@ -22,9 +18,7 @@ gone_is past c h = by_test (exists past c) refl h
   where
     by_phase : (ph : Phase) → phase past c ≡ ph → is_gone (Some ph) ≡ true → phase past c ≡ Phase.Killed
     by_phase Phase.Killed k j = k
-    by_phase Phase.Inactive k j = absurd cc
-    by_phase Phase.Stopped k j = absurd cc
-    by_phase (Phase.Running run) k j = absurd cc
+    by_phase _ k j = absurd cc
 
     by_test : (t : Bool) → exists past c ≡ t → is_gone (if t then Some (phase past c) else None) ≡ true → IsGone past c
     by_test true k j = record { there = k; dead = by_phase (phase past c) refl j }
@@ -92,14 +86,6 @@ pub record HaltsOne (past : List Entry) (e : Entry) (c : ℕ) : Type 0 where
   pub no_wake : wake_if e.op e.reply ≡ None
   pub goes : is_ended e.reply ≡ false
 
-not_yes : (t : Bool) → not t ≡ true → t ≡ false
-not_yes true h = absurd cc
-not_yes false h = refl
-
-and_both : (a b : Bool) → (a && b) ≡ true → (a ≡ true) × (b ≡ true)
-and_both true b h = (refl, h)
-and_both false b h = absurd cc
-
 pub stop_halts : (past : List Entry) (e : Entry) (c : Comp) → (e.op ≡ Op.Stop (Group.One c)) ⊎ (e.op ≡ Op.Kill (Group.One c)) → e.reply ≡ Reply.Ok → (c.0 == 0) ≡ false → HaltsOne past e c.0
 stop_halts past e c (inl op) reply other = record {
   no_case = rw (op, reply, other) refl;
@@ -136,21 +122,20 @@ pub record IsLateFor (past : List Entry) (op : Op) (c : Comp) : Type 0 where
 
 pub late_for : (past : List Entry) (op : Op) → is_late past op ≡ true → (c : Comp) × IsLateFor past op c
 late_for past (Op.Stop (Group.One c)) h =
-    let p = and_both (not (c.0 == 0)) (is_gone (phase_if_any past c.0)) h in
-    (c, record { halts_it = inl refl; other = not_yes (c.0 == 0) p.0; gone = gone_is past c.0 p.1 })
+    let p = and_parts (not (c.0 == 0)) (is_gone (phase_if_any past c.0)) h in
+    (c, record { halts_it = inl refl; other = not-true (c.0 == 0) p.0; gone = gone_is past c.0 p.1 })
 late_for past (Op.Kill (Group.One c)) h =
-    let p = and_both (not (c.0 == 0)) (is_gone (phase_if_any past c.0)) h in
-    (c, record { halts_it = inr refl; other = not_yes (c.0 == 0) p.0; gone = gone_is past c.0 p.1 })
-late_for past (Op.Stop Group.All) h = absurd cc
-late_for past (Op.Kill Group.All) h = absurd cc
+    let p = and_parts (not (c.0 == 0)) (is_gone (phase_if_any past c.0)) h in
+    (c, record { halts_it = inr refl; other = not-true (c.0 == 0) p.0; gone = gone_is past c.0 p.1 })
 late_for past _ h = absurd cc
 
+-- what holds of both calls that halt one component
+pub halting : (P : Op → Type 0) (op : Op) (c : Comp) → (op ≡ Op.Stop (Group.One c)) ⊎ (op ≡ Op.Kill (Group.One c)) → P (Op.Stop (Group.One c)) → P (Op.Kill (Group.One c)) → P op
+halting P op c (inl is) stop kill = subst P (sym is) stop
+halting P op c (inr is) stop kill = subst P (sym is) kill
+
 pub late_if : (past : List Entry) (op : Op) (c : Comp) → IsLateFor past op c → is_late past op ≡ true
-late_if past op c h = by_op h.halts_it
-  where
-    by_op : (op ≡ Op.Stop (Group.One c)) ⊎ (op ≡ Op.Kill (Group.One c)) → is_late past op ≡ true
-    by_op (inl is) = rw (is, h.other) (gone_if past c.0 h.gone)
-    by_op (inr is) = rw (is, h.other) (gone_if past c.0 h.gone)
+late_if past op c h = let gone = gone_if past c.0 h.gone in halting (λ o. is_late past o ≡ true) op c h.halts_it (rw h.other gone) (rw h.other gone)
 
 pub late_next : (n : ℕ) (past : List Entry) (e : Entry) (op : Op) → IsLegal n (e ∷ past) → is_late past op ≡ true → is_late (e ∷ past) op ≡ true
 late_next n past e op legal h =
@@ -158,32 +143,17 @@ late_next n past e op legal h =
     late_if (e ∷ past) op l.0 (record { halts_it = l.1.halts_it; other = l.1.other; gone = gone_next n past e l.0.0 legal l.1.gone })
 
 pub late_special : (n : ℕ) (past : List Entry) (q : List Entry) (op : Op) → is_late q op ≡ true → special_fault n past op ≡ None
-late_special n past q op h = by_op (late_for q op h).1.halts_it
-  where
-    by_op : (op ≡ Op.Stop (Group.One (late_for q op h).0)) ⊎ (op ≡ Op.Kill (Group.One (late_for q op h).0)) → special_fault n past op ≡ None
-    by_op (inl is) = rw is refl
-    by_op (inr is) = rw is refl
+late_special n past q op h = let l = late_for q op h in halting (λ o. special_fault n past o ≡ None) op l.0 l.1.halts_it refl refl
 
 -- a late call that is no error is answered at once
 pub late_reply : (q past : List Entry) (b : ℕ) (op : Op) → is_late q op ≡ true → plain_answer past b op ≡ Reply.Ok
-late_reply q past b op h = by_op (late_for q op h).1.halts_it
-  where
-    by_op : (op ≡ Op.Stop (Group.One (late_for q op h).0)) ⊎ (op ≡ Op.Kill (Group.One (late_for q op h).0)) → plain_answer past b op ≡ Reply.Ok
-    by_op (inl is) = rw is refl
-    by_op (inr is) = rw is refl
+late_reply q past b op h = let l = late_for q op h in halting (λ o. plain_answer past b o ≡ Reply.Ok) op l.0 l.1.halts_it refl refl
 
 pub late_halts : (q past : List Entry) (e : Entry) (h : is_late q e.op ≡ true) → e.reply ≡ Reply.Ok → HaltsOne past e (late_for q e.op h).0.0
 late_halts q past e h reply = let l = late_for q e.op h in stop_halts past e l.0 l.1.halts_it reply l.1.other
 
 pub late_free : (aim : Verdict) (q : List Entry) (op : Op) → is_late q op ≡ true → is_barred aim op ≡ false
-late_free aim q op late = by_op (late_for q op late).1.halts_it
-  where
-    by_op : (op ≡ Op.Stop (Group.One (late_for q op late).0)) ⊎ (op ≡ Op.Kill (Group.One (late_for q op late).0)) → is_barred aim op ≡ false
-    by_op (inl is) = ap (is_barred aim) is
-    by_op (inr is) = ap (is_barred aim) is
-
-neither : (a b : Bool) → a ≡ false → b ≡ false → (a || b) ≡ false
-neither a b g h = rw (g, h) refl
+late_free aim q op late = let l = late_for q op late in halting (λ o. is_barred aim o ≡ false) op l.0 l.1.halts_it refl refl
 
 module _ {past : List Entry} {e : Entry} {c : ℕ} where
   pub halt_elsewhere : (n : ℕ) → IsLegal n (e ∷ past) → HaltsOne past e c → (d : ℕ) → (c == d) ≡ false → phase (e ∷ past) d ≡ phase past d
@@ -221,7 +191,7 @@ module _ {past : List Entry} {e : Entry} {c : ℕ} where
   pub halt_not_ending : HaltsOne past e c → (o : Option Comp) (me : Comp) → o ≡ Some me → (c == me.0) ≡ false → ends o e ≡ false
   unfolding ends_pass
   halt_not_ending h o me same other =
-      subst (λ x. ends x e ≡ false) (sym same) (neither (is_ended e.reply) (halts (Some me) e me.0) h.goes (h.elsewhere (Some me) me.0 other))
+      subst (λ x. ends x e ≡ false) (sym same) (or_from (is_ended e.reply) (halts (Some me) e me.0) h.goes (h.elsewhere (Some me) me.0 other))
 
 -- ---- waits
 
@@ -234,8 +204,6 @@ pub record IsMetFor (past : List Entry) (op : Op) : Type 0 where
 
 pub met_for : (past : List Entry) (op : Op) → is_met past op ≡ true → IsMetFor past op
 met_for past (Op.Wait k (Target.One c)) h = record { for_kill = k; comp = c; waits = refl; gone = gone_is past c.0 h }
-met_for past (Op.Wait k Target.Any) h = absurd cc
-met_for past (Op.Wait k Target.All) h = absurd cc
 met_for past _ h = absurd cc
 
 pub met_next : (n : ℕ) (past : List Entry) (e : Entry) (op : Op) → IsLegal n (e ∷ past) → is_met past op ≡ true → is_met (e ∷ past) op ≡ true

@@ -1,16 +1,9 @@
 -- What the end of a run does that nobody can see.
-use Rattle.std.proofs.Common.{ℕ, suc, ◌≡◌, ◌≤◌, ◌<◌, ◌==◌, ◌||◌, ◌⊎◌, inl, inr, nat_lt, not, if◌then◌else◌, Bool, true, false, Option, Some, None, is_some, MatchOption, List, ◌∷◌, length, slice_get, get_or, refl, ap, sym, subst, ◌∙◌, arith, ⊎_elim}
-use Rattle.std.proofs.lemmas.{Bool.Decides.nat_tests, Option.slice_get-get_or, Option.slice_get_within}
-use Rattle.tc_rules.specs.Prelude.{Comp, Entry, Op, Phase, comps, comp_of, exists, is_alive_type, created, started_on, halts, kills, ends_case, phase, phase_if_any, start_in, overall, is_active, is_active_on, is_run_of, IsLegal, level_of, Verdict, Target, Reply}
-use Rattle.tc_step.specs.declared.step.{Status.Status, Step.Step}
-use Rattle.tc_step.specs.Prelude.{ScriptView}
-use Rattle.tc_rules.specs.declared.component_state.ComponentState.{ComponentState}
-use Rattle.tc_rules.proofs.Lemmas.{Deciding.and_left, Deciding.equal_if, Deciding.self_equal, Going.halted_by_entry, Going.started_by_entry, LawsOfHistories.runs_if_active, Over.on_existing}
-use Rattle.tc_course.specs.Prelude.{CourseState, stand, steps_of, IsCourse}
-use Rattle.tc_course.specs.Inside.{call_of}
-use Rattle.tc_course.proofs.Lemmas.{course_legal, stand_comp, stand_other}
-use Rattle.tc_explore.specs.Inside.Simulation.{is_gone, is_spent, IsQuietAt, IsWakeOf, call_at, IsBefore, IsParkedAt, IsFollowed, IsLastAt, WasParked, IsLeaving, IsEnding, place_of, place_by, IsOrdered, IsFor, is_barred, IsBarredBefore, AreOrdered}
-use Rattle.tc_explore.proofs.{Ahead.KeepsQuiet, Ahead.ended_inactive, Ahead.leaving_later, Ahead.leaving_other, Alike.first_kept, Alike.fresh, Alike.kind_kept, Alike.overall_next, Alike.phase_next, Late.gone_is, Ordered.gone_after, Ordered.order_stays, Places.keeps_quiet, Simulation.followed_later, Simulation.some_if}
+use Rattle.std.proofs.{Common.{ℕ, suc, ◌≡◌, ◌≤◌, ◌<◌, ◌==◌, ◌||◌, ◌⊎◌, inl, inr, nat_lt, not, if◌then◌else◌, Bool, true, false, Option, Some, None, is_some, MatchOption, List, ◌∷◌, length, slice_get, get_or, refl, ap, sym, subst, ◌∙◌, arith, ⊎_elim}, lemmas.{Bool.Decides.nat_tests, Option.{slice_get-get_or, slice_get_within}}}
+use Rattle.tc_rules.{specs.{Prelude.{Comp, Entry, Op, Phase, comps, comp_of, exists, is_alive_type, created, started_on, halts, kills, ends_case, phase, phase_if_any, start_in, overall, is_active, is_active_on, is_run_of, IsLegal, level_of, Verdict, Target, Reply}, declared.component_state.ComponentState.ComponentState}, proofs.Lemmas.{Deciding.{and_left, equal_if, self_equal}, Going.{halted_by_entry, started_by_entry}, LawsOfHistories.runs_if_active, Over.on_existing}}
+use Rattle.tc_step.specs.{declared.step.{Status.Status, Step.Step}, Prelude.ScriptView}
+use Rattle.tc_course.{specs.{Prelude.{CourseState, stand, steps_of, IsCourse}, Inside.call_of}, proofs.Lemmas.{course_legal, stand_comp, stand_other}}
+use Rattle.tc_explore.{specs.Inside.Simulation.{is_gone, is_spent, IsQuietAt, IsWakeOf, call_at, IsBefore, IsParkedAt, IsFollowed, IsLastAt, WasParked, IsLeaving, IsEnding, place_of, place_by, IsOrdered, IsFor, is_barred, IsBarredBefore, AreOrdered}, proofs.{Ahead.{KeepsQuiet, ended_inactive, leaving_later, phase_later, leaving_other}, Alike.{first_kept, fresh, kind_kept, overall_next, phase_next}, Late.gone_is, Ordered.{gone_after, order_stays}, Places.keeps_quiet, Simulation.{followed_later, some_if}}}
 
 -- the entry ends its caller, which is not the main run, on this component, which is not alive-type
 pub record Ends (past : List Entry) (e : Entry) (c : Comp) : Type 0 where
@@ -110,17 +103,7 @@ module _ {past : List Entry} {e : Entry} {c : Comp} where
 finish_last : (me : Comp) (bound : List Comp) (o : Option Step) → call_of me bound o ≡ Op.Finish → o ≡ None
 finish_last me bound None h = refl
 finish_last me bound (Some (Step.Ask Status.Running t)) h = absurd cc
-finish_last me bound (Some (Step.Ask Status.Alive t)) h = absurd cc
-finish_last me bound (Some (Step.Ask Status.Done t)) h = absurd cc
-finish_last me bound (Some (Step.Ask Status.Killed t)) h = absurd cc
-finish_last me bound (Some (Step.Create alive name)) h = absurd cc
-finish_last me bound (Some (Step.Start on run args)) h = absurd cc
-finish_last me bound (Some (Step.Stop g)) h = absurd cc
-finish_last me bound (Some (Step.Kill g)) h = absurd cc
-finish_last me bound (Some (Step.Wait killed t)) h = absurd cc
-finish_last me bound (Some (Step.SetVerdict v)) h = absurd cc
-finish_last me bound (Some Step.StopCase) h = absurd cc
-finish_last me bound (Some Step.GetVerdict) h = absurd cc
+finish_last me bound _ h = absurd cc
 
 none_behind : (steps : List Step) (j k : ℕ) → j ≤ k → slice_get steps j ≡ None → slice_get steps k ≡ None
 none_behind steps j k l h = by_get (slice_get steps k) refl
@@ -255,18 +238,6 @@ module _ {aim : Verdict} (scripts : List ScriptView) (p q : List Entry) (e : Ent
         (followed_leaves scripts q e.caller.0 (stand p e.caller.0) (stand q e.caller.0) (f.runs e.caller.0 act) ends);
   }
 
-  ending_elsewhere : (d : ℕ) → (c.0 == d) ≡ false → (phase p d ≡ phase q d) ⊎ IsEnding aim scripts p q d → (phase p d ≡ phase (e ∷ q) d) ⊎ IsEnding aim scripts p (e ∷ q) d
-  ending_elsewhere d other (inl same) = inl (same ∙ sym (end_elsewhere (length scripts) lq h d other))
-  ending_elsewhere d other (inr n) = inr (record {
-    run = n.run;
-    running = n.running;
-    ended = end_elsewhere (length scripts) lq h d other ∙ n.ended;
-    not_main = n.not_main;
-    on = n.on;
-    ordinary = n.ordinary;
-    leaving = leaving_later scripts q (e ∷ q) n.run.0 (stand p n.run.0) keeps n.leaving;
-  })
-
   -- the component comes after all others by rank
   abbrev rank_by : AreOrdered scripts p q → Bool → ℕ → ℕ
   rank_by o true d = suc o.top
@@ -335,7 +306,7 @@ module _ {aim : Verdict} (scripts : List ScriptView) (p q : List Entry) (e : Ent
 
   by_place : (d : ℕ) (t : Bool) → (c.0 == d) ≡ t → (phase p d ≡ phase (e ∷ q) d) ⊎ IsEnding aim scripts p (e ∷ q) d
   by_place d true k = subst (λ x. (phase p x ≡ phase (e ∷ q) x) ⊎ IsEnding aim scripts p (e ∷ q) x) (equal_if c.0 d k) (inr ending_here)
-  by_place d false k = ending_elsewhere d k (f.ahead.phases d)
+  by_place d false k = phase_later scripts p q (e ∷ q) d (end_elsewhere (length scripts) lq h d k) keeps (f.ahead.phases d)
 
   pub lead_end : IsFor aim scripts (e ∷ q) p
   lead_end = record {

@@ -1,16 +1,11 @@
 -- If what comes after each state that a search for local verdicts has seen is seen, or found, it has found the local
 -- verdicts of each complete course.
 use Rattle.std.proofs.Common.{ℕ, ◌≡◌, ◌+◌, ◌*◌, ◌<◌, ◌≤◌, ◌++◌, nat_eq, All, Bool, true, false, Some, None, List, [], ◌∷◌, length, map, reverse, slice_get, get_or, refl, ap, sym, subst, ◌∙◌, arith}
-use Rattle.std.specs.{Cmp.Lexicographic.pointwise, List.IsDistinct, Option.unwrap_or}
-use Rattle.std.proofs.lemmas.{List.Elements.All-nil, List.Elements.All-same, List.Elements.All-weaker, List.length-map, Option.slice_get-get_or, Option.slice_get_within}
-use Rattle.tc_rules.specs.Prelude.{Run, level_of, Comp, Entry, Op, Case, past_of, ends_case, is_over, is_active, Reply}
+use Rattle.std.{specs.{Cmp.Lexicographic.pointwise, List.IsDistinct, Option.unwrap_or}, proofs.lemmas.{List.{Elements.{All-nil, All-same, All-weaker}, length-map}, Option.{slice_get-get_or, slice_get_within}}}
+use Rattle.tc_rules.{specs.Prelude.{Run, level_of, Comp, Entry, Op, Case, past_of, ends_case, is_over, is_active, Reply, entry_made}, proofs.Lemmas.Over.all_over}
 use Rattle.tc_step.specs.Prelude.{ScriptView}
-use Rattle.tc_rules.proofs.Lemmas.Over.{all_over}
-use Rattle.tc_course.specs.Prelude.{stand, steps_of, turn, IsTurn, IsCourse, IsComplete, entry_made, IsOn, CannotGo, is_local}
-use Rattle.tc_course.specs.Inside.{call_of}
-use Rattle.tc_course.proofs.Lemmas.{below_more, course_legal, run_in_range, stand_comp, turn_of}
-use Rattle.tc_explore.specs.{Found.AllLocalsFound, Found.HasCourses, Inside.Seen.IsLonger, Inside.Seen.IsWith, Inside.Twins.AreGoing, Inside.Twins.AreLocalsClosed, Inside.Twins.AreLocalsRuns, Inside.Twins.HasLocals, Inside.Twins.HasTwinKeys, Inside.Twins.IsGoing, Inside.Twins.IsLocalsAfter, Inside.Twins.IsLocalsAt, Inside.Twins.IsLocalsRun, Inside.Twins.IsMore, Inside.Twins.IsTwin, Inside.Twins.IsTwinSeen, Inside.Twins.twin_key, declared.search.Met.Met}
-use Rattle.tc_explore.proofs.{Alike.active_alike, Closed.same_entry, Closing.answer_inactive, Keeping.active_stays, Keeping.comp_main, Keeping.main_goes, Kept.all_with, Kept.courses_of, Kept.longer_with, Kept.no_courses, LastCalls.locals_ended, Seeing.get_last, Seeing.get_more, Simulation.some_if, States.at_longer, Twins.locals_twin, Twins.matched, Twins.twin_ended, Twins.twin_self, Twins.twin_then}
+use Rattle.tc_course.{specs.{Prelude.{stand, steps_of, turn, IsTurn, IsCourse, IsComplete, IsOn, CannotGo, is_local}, Inside.call_of}, proofs.Lemmas.{below_more, course_legal, run_in_range, stand_comp, turn_of}}
+use Rattle.tc_explore.{specs.{Found.{AllLocalsFound, HasCourses}, Inside.{Seen.{IsLonger, IsWith}, Twins.{AreGoing, AreLocalsClosed, AreLocalsRuns, HasLocals, AreKeyed, IsGoing, IsLocalsAfter, IsLocalsAt, IsLocalsRun, IsMore, IsTwin, IsTwinSeen, twin_key}}, declared.search.Met.Met}, proofs.{Alike.active_alike, Closed.same_entry, Closing.answer_inactive, Keeping.{active_stays, comp_main, main_goes}, Kept.{all_with, courses_of, longer_with, no_courses}, LastCalls.locals_ended, Seeing.get_more, Simulation.some_if, States.at_longer, Twins.{locals_twin, matched, twin_ended, twin_then}}}
 
 -- ---- all courses
 
@@ -159,9 +154,6 @@ locals_run scripts states found n q run op t after = λ e own h act. subst (λ x
 
 -- ---- states
 
-pub twin_seen_last : (states : List Case) (t : Case) → IsTwinSeen (states ++ t ∷ []) (past_of t)
-twin_seen_last states t = (length states, t, get_last states t, twin_self (past_of t))
-
 pub going_on : (scripts : List ScriptView) (t : Case) → IsGoing scripts t → IsOn scripts t
 going_on scripts t g = g.on
 
@@ -176,32 +168,23 @@ going_same scripts t u n h g =
 pub going_opening : (scripts : List ScriptView) (t : Case) → IsOn scripts t → past_of t ≡ [] → IsGoing scripts t
 going_opening scripts t on is = record { on = on; going = ap is_over is }
 
-pub are_keyed : (scripts : List ScriptView) (met : Met) → AreGoing scripts met → HasTwinKeys scripts met
-are_keyed scripts met a = a.keyed
-
 pub are_each : (scripts : List ScriptView) (met : Met) → AreGoing scripts met → All (IsGoing scripts) met.states.items
 are_each scripts met a = a.each
 
-pub no_twin_keys : (scripts : List ScriptView) (met : Met) → met.states.items ≡ [] → met.keys.keys ≡ [] → HasTwinKeys scripts met
-no_twin_keys scripts met none no_key = rw (none, no_key) refl
-
-pub going_none : (scripts : List ScriptView) (met : Met) → met.states.items ≡ [] → HasTwinKeys scripts met → AreGoing scripts met
+pub going_none : (scripts : List ScriptView) (met : Met) → met.states.items ≡ [] → AreKeyed (twin_key (length scripts)) met → AreGoing scripts met
 going_none scripts met none keyed = record {
   few = let size : length met.states.items ≡ 0 = ap length none in omega (arith, size);
   each = All-same (IsGoing scripts) met.states.items [] none (All-nil (IsGoing scripts));
   keyed = keyed;
 }
 
-pub going_with : (scripts : List ScriptView) (met after : Met) (t : Case) → AreGoing scripts met → IsGoing scripts t → IsWith met.states.items t after.states.items → HasTwinKeys scripts after → after.limit ≡ met.limit →
+pub going_with : (scripts : List ScriptView) (met after : Met) (t : Case) → AreGoing scripts met → IsGoing scripts t → IsWith met.states.items t after.states.items → AreKeyed (twin_key (length scripts)) after → after.limit ≡ met.limit →
     length after.states.items ≤ met.limit → AreGoing scripts after
 going_with scripts met after t a state with keyed limit within = record {
   few = omega (arith, limit, within);
   each = all_with (IsGoing scripts) met.states.items after.states.items t (λ u same. going_same scripts t u same.behaviours same.entries) with a.each state;
   keyed = keyed;
 }
-
-pub as_many_twin_keys : (scripts : List ScriptView) (met : Met) → HasTwinKeys scripts met → length met.keys.keys ≡ length met.states.items
-as_many_twin_keys scripts met keyed = sym (length-map met.keys.keys (λ k. k.items)) ∙ (ap length keyed ∙ length-map met.states.items (λ t. twin_key (length scripts) (past_of t)))
 
 pub courses_met : (scripts : List ScriptView) (met : Met) → AreGoing scripts met → IsDistinct (λ x y. pointwise nat_eq x.items y.items) met.keys.keys → HasCourses scripts (length met.keys.keys)
 courses_met scripts met a distinct =
@@ -211,10 +194,10 @@ courses_met scripts met a distinct =
 pub courses_none : (scripts : List ScriptView) → HasCourses scripts 0
 courses_none scripts = ([], no_courses scripts)
 
-pub ruleset call_rules = (going_on, going_next, are_keyed, are_each, more_self, longer_with, locals_over)
+pub ruleset call_rules = (going_on, going_next, are_each, more_self, longer_with, locals_over)
 
 pub ruleset run_rules = (going_on, locals_off, locals_cannot, locals_run, more_self)
 
 pub ruleset runs_rules = (more_self, locals_runs_all, locals_ats_all, going_same)
 
-pub ruleset opening_rules = (going_on, going_opening, no_twin_keys, are_each)
+pub ruleset opening_rules = (going_on, going_opening, are_each)

@@ -1,13 +1,10 @@
 -- What is marked of the local verdicts of complete courses.
 use Rattle.std.proofs.Common.{ℕ, zero, suc, ◌≡◌, ◌==◌, ◌+◌, ◌*◌, ◌<◌, ◌≤◌, ◌++◌, nat_lt, if◌then◌else◌, Bool, true, false, Some, None, List, [], ◌∷◌, length, set, get_or, refl, ap, sym, ◌∙◌, arith}
-use Rattle.std.proofs.lemmas.{Bool.Decides.nat_tests, List.get_or-set_other, List.get_or-set_same}
-use Rattle.tc_rules.specs.Prelude.{Verdict, level_of, Entry, Case, past_of, components, exists, local_if_any}
+use Rattle.std.proofs.lemmas.{Bool.Decides.nat_tests, List.{get_or-set_other, get_or-set_same}}
+use Rattle.tc_rules.{specs.Prelude.{Verdict, level_of, Entry, Case, past_of, components, exists, local_if_any}, proofs.Lemmas.Deciding.{equal_if, self_equal}}
 use Rattle.tc_step.specs.Prelude.{ScriptView}
-use Rattle.tc_rules.proofs.Lemmas.Deciding.{equal_if, self_equal}
-use Rattle.tc_course.specs.Prelude.{IsComplete, IsOn, is_local}
-use Rattle.tc_course.proofs.Lemmas.{below_more, course_legal}
-use Rattle.tc_explore.specs.{Found.AreLocals, Found.GivesLocal, Inside.Seen.HasSameLocals, Inside.Twins.HasLocal, Inside.Twins.HasLocals, Inside.Twins.IsMarked, Inside.Twins.IsMore, Inside.Twins.IsPadded}
-use Rattle.tc_explore.proofs.Sameness.{exists_below, same_verdict}
+use Rattle.tc_course.{specs.Prelude.{IsComplete, IsOn, is_local}, proofs.Lemmas.{below_more, course_legal}}
+use Rattle.tc_explore.{specs.{Found.{AreLocals, GivesLocal}, Inside.{Seen.HasSameLocals, Twins.{HasLocal, HasLocals, IsMarked, IsMore, IsPadded}}}, proofs.Sameness.{at_most_error, exists_below, same_verdict}}
 
 -- ---- one place
 
@@ -40,13 +37,6 @@ marked_more before after at m i h = m i ∙ by_place (i == at)
     by_place true = refl
     by_place false = h
 
-pub marked_has : (before after : List Bool) (past : List Entry) (c : ℕ) (v : Verdict) (at : ℕ) → at ≡ c * 5 + level_of v → local_if_any past c ≡ Some v → IsMarked before after at → HasLocal after past c
-marked_has before after past c v at place is m w other =
-    let some : Some v ≡ Some w = sym is ∙ other in
-    let same : v ≡ w = cc in
-    let here : c * 5 + level_of w ≡ at = ap (λ x. c * 5 + level_of x) (sym same) ∙ sym place in
-    ap (λ i. get_or after i false) here ∙ (m at ∙ ap (λ t. if t then true else get_or before at false) (self_equal at))
-
 pub known_has : (found : List Bool) (past : List Entry) (c : ℕ) (v : Verdict) (at : ℕ) → at ≡ c * 5 + level_of v → local_if_any past c ≡ Some v → get_or found at false ≡ true → HasLocal found past c
 known_has found past c v at place is known w other =
     let some : Some v ≡ Some w = sym is ∙ other in
@@ -54,15 +44,11 @@ known_has found past c v at place is known w other =
     let here : c * 5 + level_of w ≡ at = ap (λ x. c * 5 + level_of x) (sym same) ∙ sym place in
     ap (λ i. get_or found i false) here ∙ known
 
+pub marked_has : (before after : List Bool) (past : List Entry) (c : ℕ) (v : Verdict) (at : ℕ) → at ≡ c * 5 + level_of v → local_if_any past c ≡ Some v → IsMarked before after at → HasLocal after past c
+marked_has before after past c v at place is m = known_has after past c v at place is (m at ∙ ap (λ t. if t then true else get_or before at false) (self_equal at))
+
 pub none_has : (found : List Bool) (past : List Entry) (c : ℕ) → local_if_any past c ≡ None → HasLocal found past c
 none_has found past c none w other = absurd cc
-
-few_levels : (v : Verdict) → level_of v < 5
-few_levels Verdict.None = omega arith
-few_levels Verdict.Pass = omega arith
-few_levels Verdict.Inconc = omega arith
-few_levels Verdict.Fail = omega arith
-few_levels Verdict.Error = omega arith
 
 pub marked_sound : (scripts : List ScriptView) (before after : List Bool) (t : Case) (c : ℕ) (v : Verdict) (at : ℕ) → at ≡ c * 5 + level_of v → IsOn scripts t → IsComplete scripts (past_of t) → local_if_any (past_of t) c ≡ Some v →
     IsMarked before after at → AreLocals scripts before → AreLocals scripts after
@@ -72,8 +58,8 @@ marked_sound scripts before after t c v at place on complete is m sound d w h = 
     by_place false k = sound d w (sym (m (d * 5 + level_of w) ∙ ap (λ s. if s then true else get_or before (d * 5 + level_of w) false) k) ∙ h)
     by_place true k =
         let one : d * 5 + level_of w ≡ c * 5 + level_of v = equal_if (d * 5 + level_of w) at k ∙ place in
-        let comps : c ≡ d = omega (arith, one, few_levels v, few_levels w) in
-        let levels : level_of v ≡ level_of w = omega (arith, one, few_levels v, few_levels w) in
+        let comps : c ≡ d = omega (arith, one, at_most_error v, at_most_error w) in
+        let levels : level_of v ≡ level_of w = omega (arith, one, at_most_error v, at_most_error w) in
         let verdicts : v ≡ w = same_verdict v w levels in
         (past_of t, on.course, complete, ap (local_if_any (past_of t)) (sym comps) ∙ (is ∙ ap Some verdicts))
 

@@ -1,12 +1,9 @@
 -- Searches for verdicts, each up to a better one: what they have found together.
-use Rattle.std.proofs.Common.{ℕ, suc, ◌≡◌, ◌<◌, ◌≤◌, ◌&&◌, nat_lt, nat_le, if◌then◌else◌, Bool, true, false, Option, Some, None, List, refl, ap, sym, subst, ◌∙◌, arith, [], length, reverse}
-use Rattle.std.proofs.lemmas.Bool.Decides.{nat_tests}
+use Rattle.std.proofs.{lemmas.Bool.{and_parts, Decides.nat_tests}, Common.{ℕ, suc, ◌≡◌, ◌<◌, ◌≤◌, ◌&&◌, nat_lt, nat_le, if◌then◌else◌, Bool, true, false, Option, Some, None, List, refl, ap, sym, subst, ◌∙◌, arith, [], length, reverse}}
 use Rattle.tc_rules.specs.Prelude.{Verdict, level_of, Case, past_of, overall}
 use Rattle.tc_step.specs.Prelude.{ScriptView}
-use Rattle.tc_course.specs.declared.witness.Witness.{Witness}
-use Rattle.tc_course.specs.Prelude.{is_found, AllFound}
-use Rattle.tc_explore.specs.Inside.{Seen.AllTold, Seen.AreClosed, Seen.AreFoundAbove, Seen.IsLonger, Seen.IsSeen, Seen.IsToldBy, Seen.is_found_within, Seen.next_aim, Simulation.IsCovered}
-use Rattle.tc_explore.proofs.{Closing.SeenIsClosed, Closing.complete_is_told, Sameness.same_for, Sameness.same_verdict, Seeing.found_longer}
+use Rattle.tc_course.specs.{declared.witness.Witness.Witness, Prelude.{is_found, AllFound}}
+use Rattle.tc_explore.{specs.Inside.{Seen.{AllTold, AreClosed, AreFoundAbove, IsLonger, IsSeen, IsToldBy, is_found_within, next_aim}, Simulation.IsCovered}, proofs.{Closing.{SeenIsClosed, complete_is_told}, Sameness.{at_most_error, same_for, same_verdict}, Seeing.found_longer}}
 
 -- if a verdict as bad is found of one that is worse than this one, if there is one, it is found itself
 abbrev IsDecided : List Witness → Verdict → Option Verdict → Type 0
@@ -19,10 +16,6 @@ IsNoneFrom found aim n = (w : Verdict) → n ≤ level_of w → is_found_within 
 
 within_if : (found : List Witness) (aim w : Verdict) → is_found found w ≡ true → level_of w ≤ level_of aim → is_found_within found aim w ≡ true
 within_if found aim w h l = let near : nat_le (level_of w) (level_of aim) ≡ true = grind (arith, nat_tests) in rw (near, h) refl
-
-and_right : (a b : Bool) → (a && b) ≡ true → b ≡ true
-and_right true b h = h
-and_right false b h = absurd cc
 
 -- a verdict of which one as bad is found is no worse than the worst of these
 told_below : (found : List Witness) (aim v : Verdict) (n : ℕ) → IsNoneFrom found aim (suc n) → IsToldBy aim found v → level_of v ≤ n
@@ -49,15 +42,8 @@ decided_if found aim m a rest next none later = by_test (is_found_within found a
     by_test true k = λ v less told.
         let low = told_below found aim v (level_of m) none told in
         let same : level_of v ≡ level_of m = omega (arith, less, low, next) in
-        ap (is_found found) (same_verdict v m same) ∙ and_right (nat_le (level_of m) (level_of aim)) (is_found found m) k
+        ap (is_found found) (same_verdict v m same) ∙ (and_parts (nat_le (level_of m) (level_of aim)) (is_found found m) k).1
     by_test false k = later (λ w l. still w l k (nat_lt (level_of m) (level_of w)) refl)
-
-at_most_error : (w : Verdict) → level_of w ≤ 4
-at_most_error Verdict.None = omega arith
-at_most_error Verdict.Pass = omega arith
-at_most_error Verdict.Inconc = omega arith
-at_most_error Verdict.Fail = omega arith
-at_most_error Verdict.Error = omega arith
 
 abbrev from_pass : List Witness → Verdict → Option Verdict
 from_pass found aim = if is_found_within found aim Verdict.Pass then Some Verdict.None else None

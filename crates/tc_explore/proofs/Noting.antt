@@ -1,20 +1,9 @@
 -- Witnesses of which no verdict has two. Each is a legal history.
-use Rattle.std.proofs.Common.{ℕ, zero, suc, ◌≡◌, ◌==◌, ◌<◌, ◌≤◌, ◌||◌, Bool, true, false, nat_lt, List, [], ◌∷◌, ◌++◌, length, reverse, get_or, refl, ap, sym, ◌∙◌, arith, length-append}
-use Rattle.std.proofs.lemmas.{Bool.Decides.nat_tests, List.Elements.All-push, List.Sorted.All-permutation, List.Sorted.list_any-IsPermutation, List.get_or_append_left, Map.Keys.IsDistinct-IsPermutation, Map.Keys.IsDistinct-from_apart, Map.Keys.apart_from_distinct}
-use Rattle.std.specs.List.{IsDistinct, Sorted.IsNonDecreasingBy, Sorted.IsPermutation}
-use Rattle.std.proofs.Math.Seq.{get_or-append_seam}
-use Rattle.tc_rules.specs.Prelude.{Verdict, level_of}
+use Rattle.std.{proofs.{lemmas.{Bool.{or_right, Decides.nat_tests}, List.{Elements.All-push, Sorted.{All-permutation, list_any-IsPermutation}, get_or_append_left}, Map.Keys.{IsDistinct-IsPermutation, IsDistinct-from_apart, apart_from_distinct}}, Common.{ℕ, zero, suc, ◌≡◌, ◌==◌, ◌<◌, ◌≤◌, ◌||◌, Bool, true, false, nat_lt, List, [], ◌∷◌, ◌++◌, length, reverse, get_or, refl, ap, sym, ◌∙◌, arith, length-append}, Math.Seq.get_or-append_seam}, specs.List.{IsDistinct, Sorted.{IsNonDecreasingBy, IsPermutation}}}
+use Rattle.tc_rules.{specs.Prelude.{Verdict, level_of}, proofs.Lemmas.Deciding.{equal_if, self_equal}}
 use Rattle.tc_step.specs.Prelude.{ScriptView}
-use Rattle.tc_rules.proofs.Lemmas.Deciding.{equal_if, self_equal}
-use Rattle.tc_course.specs.declared.witness.Witness.{Witness}
-use Rattle.tc_course.specs.Prelude.{IsWitness, AllFound, is_found, AreLegal, AreWitnesses}
-use Rattle.tc_course.proofs.Lemmas.{course_legal}
-use Rattle.tc_explore.specs.{Found.AreCovered, Found.AreFromBest, Found.Covers, Inside.Seen.AreNoted, Inside.Seen.IsOnce}
-use Rattle.tc_explore.proofs.Sameness.{same_verdict}
-
-or_yes : (t : Bool) → (t || true) ≡ true
-or_yes true = refl
-or_yes false = refl
+use Rattle.tc_course.{specs.{declared.witness.Witness.Witness, Prelude.{IsWitness, AllFound, is_found, AreLegal, AreWitnesses}}, proofs.Lemmas.course_legal}
+use Rattle.tc_explore.{specs.{Found.{AreCovered, AreFromBest, Covers}, Inside.Seen.{AreNoted, IsOnce}}, proofs.Sameness.same_verdict}
 
 -- the verdict of one of them is found
 found_at : (found : List Witness) (i : ℕ) (d : Witness) (v : Verdict) → i < length found → (get_or found i d).verdict ≡ v → is_found found v ≡ true
@@ -24,7 +13,7 @@ found_at (w ∷ ws) zero d v near is =
     ap (λ t. t || is_found ws v) here
 found_at (w ∷ ws) (suc i) d v near is =
     let rest : is_found ws v ≡ true = found_at ws i d v (omega arith) is in
-    ap (λ t. (level_of w.verdict == level_of v) || t) rest ∙ or_yes (level_of w.verdict == level_of v)
+    ap (λ t. (level_of w.verdict == level_of v) || t) rest ∙ or_right (level_of w.verdict == level_of v) true refl
 
 pub some_found : (found : List Witness) (v : Verdict) → is_found found v ≡ true → 1 ≤ length found
 some_found [] v is = absurd cc

@@ -1,16 +1,10 @@
 -- For what runs wait from now on: each component that they wait for comes before their own by rank, so that they do not wait
 -- for one another.
-use Rattle.std.proofs.Common.{ℕ, ◌≡◌, ◌+◌, ◌≤◌, ◌==◌, ◌⊎◌, inl, inr, if◌then◌else◌, Bool, true, false, Option, Some, None, is_some, List, ◌∷◌, length, slice_get, refl, ap, sym, subst, ◌∙◌, arith}
-use Rattle.std.specs.Option.{unwrap_or}
-use Rattle.tc_rules.specs.Prelude.{Comp, Entry, Op, comp_of, created, started_on, first_some, phase, phase_if_any, is_active, is_active_on, is_run_of, IsLegal, Verdict, is_wake, Phase}
-use Rattle.tc_step.specs.declared.step.Step.{Step}
-use Rattle.tc_step.specs.Prelude.{ScriptView}
-use Rattle.tc_rules.proofs.Lemmas.{Deciding.and_left, Deciding.equal_if, Going.halted_by_entry, Going.started_by_entry}
-use Rattle.tc_course.specs.Prelude.{CourseState, stand, after_own, steps_of, IsTurn, IsCourse}
-use Rattle.tc_course.specs.Inside.{wake_if, call_of}
-use Rattle.tc_course.proofs.Lemmas.{course_legal, HasTurn, has_turn, never_wake, stand_own, stand_other, stand_comp}
-use Rattle.tc_explore.specs.Inside.Simulation.{IsAlike, is_gone, call_at, place_by, IsAhead, IsOrdered, AreOrdered}
-use Rattle.tc_explore.proofs.{Alike.any_phase_same, Alike.first_kept, Late.gone_if, Late.gone_is, Late.gone_next, Places.kept_bound}
+use Rattle.std.{proofs.Common.{ℕ, ◌≡◌, ◌+◌, ◌≤◌, ◌==◌, ◌⊎◌, inl, inr, if◌then◌else◌, Bool, true, false, Option, Some, None, is_some, List, ◌∷◌, length, slice_get, refl, ap, sym, subst, ◌∙◌, arith}, specs.Option.unwrap_or}
+use Rattle.tc_rules.{specs.Prelude.{Comp, Entry, Op, comp_of, created, started_on, first_some, phase, phase_if_any, is_active, is_active_on, is_run_of, IsLegal, Verdict, is_wake, Phase}, proofs.Lemmas.{Deciding.{and_left, equal_if}, Going.{halted_by_entry, started_by_entry}}}
+use Rattle.tc_step.specs.{declared.step.Step.Step, Prelude.ScriptView}
+use Rattle.tc_course.{specs.{Prelude.{CourseState, stand, after_own, steps_of, IsTurn, IsCourse}, Inside.{wake_if, call_of}}, proofs.Lemmas.{course_legal, HasTurn, has_turn, never_wake, stand_own, stand_other, stand_comp}}
+use Rattle.tc_explore.{specs.Inside.Simulation.{IsAlike, is_gone, call_at, place_by, IsAhead, IsOrdered, AreOrdered}, proofs.{Alike.{any_phase_same, first_kept}, Late.{gone_if, gone_is, gone_next}, Places.kept_bound}}
 
 -- ---- one run
 

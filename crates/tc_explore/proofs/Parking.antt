@@ -1,21 +1,14 @@
 -- A case in which no run can continue: each that is running is parked, and the main component's Wake is an error.
-use Rattle.std.proofs.Common.{ℕ, ◌≡◌, ◌<◌, ◌≤◌, ◌+◌, ◌==◌, ◌⊎◌, inl, inr, nat_lt, if◌then◌else◌, Bool, true, false, Option, Some, None, List, [], ◌∷◌, length, slice_get, slice_index_or, refl, ap, sym, subst, ◌∙◌, arith}
-use Rattle.std.specs.List.{list_all}
-use Rattle.std.proofs.lemmas.Bool.Decides.{nat_tests}
-use Rattle.tc_rules.specs.Prelude.{Run, Comp, Entry, Op, Target, Phase, Reply, Fault, is_ended, is_fault, is_wake, Case, past_of, comps, comp_of, started_on, is_alive_type, is_over, phase, last_run, was_killed, was_halted, overall, holds, waiting, waits_in_vain, is_still, is_stuck, fault, answer, plain_answer, is_active, is_run_of, IsLegal, Verdict}
+use Rattle.std.{proofs.{Common.{ℕ, ◌≡◌, ◌<◌, ◌≤◌, ◌+◌, ◌==◌, ◌⊎◌, inl, inr, nat_lt, if◌then◌else◌, Bool, true, false, Option, Some, None, List, [], ◌∷◌, length, slice_get, slice_index_or, refl, ap, sym, subst, ◌∙◌, arith}, lemmas.Bool.Decides.nat_tests}, specs.List.list_all}
+use Rattle.tc_rules.{specs.Prelude.{Run, Comp, Entry, Op, Target, Phase, Reply, Fault, is_ended, is_fault, is_wake, Case, past_of, comps, comp_of, started_on, is_alive_type, is_over, phase, last_run, was_killed, was_halted, overall, holds, waiting, waits_in_vain, is_still, is_stuck, fault, answer, plain_answer, is_active, is_run_of, IsLegal, Verdict}, proofs.Lemmas.{Deciding.{equal_if, self_equal}, Going.last_on_it, Steps.phase_by}}
 use Rattle.tc_step.specs.Prelude.{ScriptView}
-use Rattle.tc_rules.proofs.Lemmas.{Deciding.equal_if, Deciding.self_equal, Going.last_on_it, Steps.phase_by}
-use Rattle.tc_course.specs.{Inside.call_of, Inside.one_more_if, declared.witness.Witness.Witness}
-use Rattle.tc_course.specs.Prelude.{CourseState, stand, goes_on, carried_on, after_other_by, turn, steps_of, IsTurn, IsCourse, is_found, IsOn}
-use Rattle.tc_course.proofs.Lemmas.{course_legal, other_not_idle, has_turn, turn_of, never_wake, stand_own, stand_other, stand_comp, run_in_range}
-use Rattle.tc_explore.specs.{Found.Covers, Inside.Seen.AreHeld, Inside.Seen.AreStill, Inside.Seen.HasNoWake, Inside.Seen.IsOpen, Inside.Seen.IsRunClosed, Inside.Seen.IsStepped, Inside.Seen.IsSteppedIfActive, Inside.Simulation.GoesOn, Inside.Simulation.IsAlike, Inside.Simulation.is_quiet}
-use Rattle.tc_explore.proofs.{Alike.ChangesNothing, Alike.active_alike, Alike.alike_unchanged, Alike.fault_alike, Alike.holds_alike, Alike.overall_next, Closing.answer_fault, Closing.answer_plain, Closing.error_is_worst, Closing.fault_of_wait, Closing.not_ended, Closing.parks_wait, Closing.quiet_reply, Keeping.active_stays, Keeping.comp_main, Keeping.main_goes, LastCalls.turn_by, Places.not_ending, Simulation.some_if, Simulation.unchanged_wait}
+use Rattle.tc_course.{specs.{Inside.{call_of, one_more_if}, declared.witness.Witness.Witness, Prelude.{CourseState, stand, goes_on, carried_on, after_other_by, turn, steps_of, IsTurn, IsCourse, is_found, IsOn}}, proofs.Lemmas.{course_legal, other_not_idle, has_turn, turn_of, never_wake, stand_own, stand_other, stand_comp, run_in_range}}
+use Rattle.tc_explore.{specs.{Found.Covers, Inside.{Seen.{AreHeld, AreStill, HasNoWake, IsOpen, IsRunClosed, IsStepped, IsSteppedIfActive}, Simulation.{GoesOn, IsAlike, is_quiet}}}, proofs.{Alike.{ChangesNothing, active_alike, alike_unchanged, fault_alike, holds_alike, overall_next}, Closing.{answer_fault, answer_plain, error_is_worst, fault_of_wait, not_ended, parks_wait, quiet_reply}, Keeping.{active_stays, comp_main, main_goes}, LastCalls.turn_by, Places.not_ending, Simulation.{some_if, unchanged_wait}}}
 
 -- ---- who is held
 
 parked_if : (r : Reply) → goes_on r ≡ false → is_ended r ≡ false → r ≡ Reply.Parked
 parked_if Reply.Parked h k = refl
-parked_if Reply.Ended h k = absurd cc
 parked_if _ h k = absurd cc
 
 -- the next call of run b is a Wait for what has not come
@@ -287,11 +280,9 @@ pub ruleset active_rules = (active_none, active_one)
 -- ---- the end
 
 running_by : (k : Bool) (last : Option Run) (h a : Bool) (r : Run) → phase_by k last h a ≡ Phase.Running r → last ≡ Some r
-running_by true last h a r e = absurd cc
-running_by false None h a r e = absurd cc
 running_by false (Some b) false a r e = cc
 running_by false (Some b) true true r e = absurd cc
-running_by false (Some b) true false r e = absurd cc
+running_by _ _ _ _ r e = absurd cc
 
 pub phase_running : (past : List Entry) (c : ℕ) (r : Run) → phase past c ≡ Phase.Running r → last_run past c ≡ Some r
 unfolding phase
@@ -313,9 +304,7 @@ stuck_if n past some legal all = all_true (λ c. is_still past (phase past c)) (
     still_at c (Phase.Running r) k =
         let on = last_on_it n past c r (omega arith) legal (phase_running past c r k) in
         all r.0 on.1 (active_if past r.0 (record { 0 = c }) on.0 (ap (is_run_of r.0) k ∙ self_equal r.0))
-    still_at c Phase.Inactive k = refl
-    still_at c Phase.Stopped k = refl
-    still_at c Phase.Killed k = refl
+    still_at c _ k = refl
 
 -- after a Fault the case is over, with error
 fault_ends : (n : ℕ) (q : List Entry) (e : Entry) (f : Fault) → IsLegal n (e ∷ q) → e.reply ≡ Reply.Fault f → (is_over (e ∷ q) ≡ true) × (overall (e ∷ q) ≡ Verdict.Error)

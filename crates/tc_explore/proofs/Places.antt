@@ -1,16 +1,11 @@
 -- The place of a run after its own turn.
-use Rattle.std.proofs.Common.{ℕ, suc, ◌≡◌, ◌+◌, ◌<◌, ◌≤◌, ◌==◌, ◌&&◌, ◌||◌, ◌⊎◌, inl, inr, not, nat_lt, if◌then◌else◌, Bool, true, false, Option, Some, None, MatchOption, List, [], ◌∷◌, ◌++◌, length, refl, ap, sym, subst, ◌∙◌, arith, append-nil}
-use Rattle.std.proofs.lemmas.Bool.Decides.{nat_tests}
-use Rattle.std.specs.{List.list_all, Option.option_to_list}
-use Rattle.tc_rules.specs.Prelude.{Verdict, level_of, Comp, Entry, Op, Reply, Fault, is_ended, is_wake, ends_pass, comp_of, created, halts, exists, overall, fault, all_exist, names, asks_many, special_fault, IsLegal, UserVerdict, given}
+use Rattle.std.{proofs.{lemmas.Bool.{and_parts, or_from, or_right, Decides.nat_tests}, Common.{ℕ, suc, ◌≡◌, ◌+◌, ◌<◌, ◌≤◌, ◌==◌, ◌&&◌, ◌||◌, ◌⊎◌, inl, inr, not, nat_lt, if◌then◌else◌, Bool, true, false, Option, Some, None, MatchOption, List, [], ◌∷◌, ◌++◌, length, refl, ap, sym, subst, ◌∙◌, arith, append-nil}}, specs.{List.list_all, Option.option_to_list}}
+use Rattle.tc_rules.{specs.Prelude.{Verdict, level_of, Comp, Entry, Op, Reply, Fault, is_ended, is_wake, ends_pass, comp_of, created, halts, exists, overall, fault, all_exist, names, asks_many, special_fault, IsLegal, UserVerdict, given}, proofs.Lemmas.Over.stays}
 use Rattle.tc_step.specs.Prelude.{ScriptView}
-use Rattle.tc_rules.proofs.Lemmas.Over.{stays}
-use Rattle.tc_course.specs.Prelude.{CourseState, after_own}
-use Rattle.tc_course.specs.Inside.{ends, wake_for, wake_if}
-use Rattle.tc_explore.specs.Inside.Simulation.{is_quiet, is_late, is_met, is_spent, WasParked, IsQuietAt, call_at, IsWakeOf, IsBefore, IsParkedAt, IsFollowed, IsLastAt, IsLeaving, is_barred, IsBarredBefore}
-use Rattle.tc_explore.proofs.{Ahead.KeepsQuiet, Alike.ChangesNothing, Alike.overall_grows, Late.late_next, Late.late_special, Late.met_next, Late.met_special}
+use Rattle.tc_course.specs.{Prelude.{CourseState, after_own}, Inside.{ends, wake_for, wake_if}}
+use Rattle.tc_explore.{specs.Inside.Simulation.{is_quiet, is_late, is_met, is_spent, WasParked, IsQuietAt, call_at, IsWakeOf, IsBefore, IsParkedAt, IsFollowed, IsLastAt, IsLeaving, is_barred, IsBarredBefore}, proofs.{Ahead.KeepsQuiet, Alike.{ChangesNothing, overall_grows}, Late.{late_next, late_special, met_next, met_special}}}
 
-or_no : (a : Bool) → (a || false) ≡ a
+pub or_no : (a : Bool) → (a || false) ≡ a
 or_no true = refl
 or_no false = refl
 
@@ -23,23 +18,19 @@ kept_left e s h = rw h (or_no s.left)
 one_more_called : (e : Entry) (s : CourseState) → is_wake e.op ≡ false → (after_own e s).called ≡ s.called + 1
 one_more_called e s h = rw h refl
 
-pub neither : (a b : Bool) → a ≡ false → b ≡ false → (a || b) ≡ false
-neither a b g h = rw (g, h) refl
-
 -- what changes nothing ends no pass
 pub not_ending : (past : List Entry) (e : Entry) (o : Option Comp) (me : Comp) → ChangesNothing past e → o ≡ Some me → comp_of past e.caller.0 ≡ Some me → is_ended e.reply ≡ false → ends o e ≡ false
 unfolding ends_pass
 not_ending past e o me u same on r =
     let h : halts (Some me) e me.0 ≡ false = subst (λ x. halts x e me.0 ≡ false) on (u.no_halt me.0) in
-    subst (λ x. ends x e ≡ false) (sym same) (neither (is_ended e.reply) (halts (Some me) e me.0) r h)
+    subst (λ x. ends x e ≡ false) (sym same) (or_from (is_ended e.reply) (halts (Some me) e me.0) r h)
 
 pub quiet_sets_no_wake : (w : Verdict) (op : Op) (r : Reply) → is_quiet w op ≡ true → wake_if op r ≡ None
 quiet_sets_no_wake w op Reply.Parked h = by_op op h
   where
     by_op : (o : Op) → is_quiet w o ≡ true → wake_for o ≡ None
     by_op (Op.Wait k t) j = absurd cc
-    by_op (Op.Wake k t) j = absurd cc
-    by_op _ j = refl
+    by_op _ j = cc
 quiet_sets_no_wake w op _ h = refl
 
 pub quiet_no_wake : (w : Verdict) (op : Op) → is_quiet w op ≡ true → is_wake op ≡ false
@@ -49,6 +40,10 @@ quiet_no_wake w _ h = refl
 before_of : (scripts : List ScriptView) (q : List Entry) (b : ℕ) (s t : CourseState) → s.wake ≡ None → IsFollowed scripts q b s t → IsBefore scripts q b s t
 before_of scripts q b s t h f = subst (λ o. MatchOption o (IsBefore scripts q b s t) (λ wake. IsParkedAt scripts q b s t wake)) h f.place
 
+followed_own : (scripts : List ScriptView) (q : List Entry) (b : ℕ) (s t : CourseState) (e : Entry) → IsFollowed scripts q b s t → created e.op e.reply ≡ None → ends s.comp e ≡ false →
+    MatchOption (after_own e s).wake (IsBefore scripts q b (after_own e s) t) (IsParkedAt scripts q b (after_own e s) t) → IsFollowed scripts q b (after_own e s) t
+followed_own scripts q b s t e f made stays_on place = record { comp = f.comp; bound = kept_bound e s made ∙ f.bound; left = kept_left e s stays_on ∙ f.left; no_wake = f.no_wake; place = place }
+
 -- a quiet call that the other has made already
 pub behind : (scripts : List ScriptView) (q : List Entry) (b : ℕ) (s t : CourseState) (e : Entry) → IsFollowed scripts q b s t → s.wake ≡ None → s.called < t.called →
     created e.op e.reply ≡ None → ends s.comp e ≡ false → is_wake e.op ≡ false → wake_if e.op e.reply ≡ None → IsFollowed scripts q b (after_own e s) t
@@ -56,13 +51,8 @@ behind scripts q b s t e f none less made stays_on plain no_wake =
     let before = before_of scripts q b s t none f in
     let called = one_more_called e s plain in
     let now : IsBefore scripts q b (after_own e s) t = record { fewer = omega (arith, called); between = λ k l m. before.between k (omega (arith, called)) m } in
-    record {
-      comp = f.comp;
-      bound = kept_bound e s made ∙ f.bound;
-      left = kept_left e s stays_on ∙ f.left;
-      no_wake = f.no_wake;
-      place = subst (λ o. MatchOption o (IsBefore scripts q b (after_own e s) t) (λ wake. IsParkedAt scripts q b (after_own e s) t wake)) (sym no_wake) now;
-    }
+    followed_own scripts q b s t e f made stays_on
+    (subst (λ o. MatchOption o (IsBefore scripts q b (after_own e s) t) (IsParkedAt scripts q b (after_own e s) t)) (sym no_wake) now)
 
 -- a Wait that is parked
 pub parked : (scripts : List ScriptView) (q : List Entry) (b : ℕ) (s t : CourseState) (e : Entry) (wake : Op) → IsFollowed scripts q b s t → s.wake ≡ None →
@@ -78,13 +68,8 @@ parked scripts q b s t e wake f none made stays_on plain to_come of =
       wake_of = of;
       between = before.between;
     } in
-    record {
-      comp = f.comp;
-      bound = kept_bound e s made ∙ f.bound;
-      left = kept_left e s stays_on ∙ f.left;
-      no_wake = f.no_wake;
-      place = subst (λ o. MatchOption o (IsBefore scripts q b (after_own e s) t) (λ w. IsParkedAt scripts q b (after_own e s) t w)) (sym to_come) now;
-    }
+    followed_own scripts q b s t e f made stays_on
+    (subst (λ o. MatchOption o (IsBefore scripts q b (after_own e s) t) (IsParkedAt scripts q b (after_own e s) t)) (sym to_come) now)
 
 -- a Wake that is answered Matched, of a Wait that the other has made already
 pub woken_behind : (scripts : List ScriptView) (q : List Entry) (b : ℕ) (s t : CourseState) (e : Entry) (wake : Op) → IsFollowed scripts q b s t → (at : IsParkedAt scripts q b s t wake) → at.place < t.called →
@@ -93,13 +78,8 @@ woken_behind scripts q b s t e wake f at less made stays_on wakes none =
     let called : (after_own e s).called ≡ s.called = rw wakes refl in
     let more = at.one_more in
     let now : IsBefore scripts q b (after_own e s) t = record { fewer = omega (arith, called, more, less); between = λ k l m. at.between k (omega (arith, called, more, l)) m } in
-    record {
-      comp = f.comp;
-      bound = kept_bound e s made ∙ f.bound;
-      left = kept_left e s stays_on ∙ f.left;
-      no_wake = f.no_wake;
-      place = subst (λ o. MatchOption o (IsBefore scripts q b (after_own e s) t) (λ w. IsParkedAt scripts q b (after_own e s) t w)) (sym none) now;
-    }
+    followed_own scripts q b s t e f made stays_on
+    (subst (λ o. MatchOption o (IsBefore scripts q b (after_own e s) t) (IsParkedAt scripts q b (after_own e s) t)) (sym none) now)
 
 -- a quiet call of the other
 pub ahead : (scripts : List ScriptView) (q : List Entry) (b : ℕ) (s t : CourseState) (e : Entry) → IsFollowed scripts (e ∷ q) b s t → IsQuietAt (length scripts) (e ∷ q) b (call_at scripts b t t.comp t.called) →
@@ -263,12 +243,7 @@ followed_self scripts q b s none =
 
 quiet_then : (w x : Verdict) (op : Op) → level_of w ≤ level_of x → is_quiet w op ≡ true → is_quiet x op ≡ true
 quiet_then w x (Op.SetVerdict v) l h = grind (arith, nat_tests)
-quiet_then w x Op.GetVerdict l h = refl
-quiet_then w x (Op.Running t) l h = refl
-quiet_then w x (Op.Alive t) l h = refl
-quiet_then w x (Op.Done t) l h = refl
-quiet_then w x (Op.Killed t) l h = refl
-quiet_then w x _ l h = absurd cc
+quiet_then w x _ l h = h
 
 no_fault_by : (known many : Bool) (f : Option Fault) → (if not known then Some Fault.NoComponent else if many then Some Fault.NotMain else f) ≡ None → (known ≡ true) × (many ≡ false)
 no_fault_by true true f h = absurd cc
@@ -277,17 +252,12 @@ no_fault_by false many f h = absurd cc
 
 never_special : (n : ℕ) (past : List Entry) (w : Verdict) (op : Op) → is_quiet w op ≡ true → special_fault n past op ≡ None
 never_special n past w (Op.Create alive name) h = absurd cc
-never_special n past w (Op.Start c run args) h = absurd cc
-never_special n past w _ h = refl
-
-and_both : (a b : Bool) → (a && b) ≡ true → (a ≡ true) × (b ≡ true)
-and_both true b h = (refl, h)
-and_both false b h = absurd cc
+never_special n past w _ h = cc
 
 still_exist : (past : List Entry) (e : Entry) (cs : List Comp) → list_all (λ c. exists past c.0) cs ≡ true → list_all (λ c. exists (e ∷ past) c.0) cs ≡ true
 still_exist past e [] h = refl
 still_exist past e (c ∷ cs) h =
-    let p = and_both (exists past c.0) (list_all (λ x. exists past x.0) cs) h in
+    let p = and_parts (exists past c.0) (list_all (λ x. exists past x.0) cs) h in
     rw (stays past e c.0 p.0, still_exist past e cs p.1) refl
 
 still_no_fault : (n : ℕ) (past : List Entry) (e : Entry) (b : ℕ) (w : Verdict) (op : Op) → is_quiet w op ≡ true → fault n past b op ≡ None → fault n (e ∷ past) b op ≡ None
@@ -305,20 +275,11 @@ still_no_fault_by n past e b op none h =
 pub spent_quiet : (past : List Entry) (op : Op) → is_quiet (overall past) op ≡ true → is_spent past op ≡ true
 spent_quiet past op h = rw h refl
 
-or_second : (s t : Bool) → (s || (true || t)) ≡ true
-or_second true t = refl
-or_second false t = refl
-
-or_third : (s t : Bool) → (s || (t || true)) ≡ true
-or_third true t = refl
-or_third false true = refl
-or_third false false = refl
-
 pub spent_late : (past : List Entry) (op : Op) → is_late past op ≡ true → is_spent past op ≡ true
-spent_late past op h = rw h (or_second (is_quiet (overall past) op) (is_met past op))
+spent_late past op h = rw h (or_right (is_quiet (overall past) op) _ refl)
 
 pub spent_met : (past : List Entry) (op : Op) → is_met past op ≡ true → is_spent past op ≡ true
-spent_met past op h = rw h (or_third (is_quiet (overall past) op) (is_late past op))
+spent_met past op h = rw h (or_right (is_quiet (overall past) op) _ (or_right (is_late past op) true refl))
 
 -- how a call changes nothing: it is quiet, or stops or kills what is killed already, or waits for that
 abbrev pub Spent : List Entry → Op → Type 0

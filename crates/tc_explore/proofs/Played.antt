@@ -1,10 +1,8 @@
 -- A course follows from which run made each call.
-use Rattle.std.proofs.Common.{ℕ, ◌≡◌, ◌+◌, ◌<◌, ◌≤◌, nat_lt, if◌then◌else◌, true, false, Bool, Some, None, List, [], ◌∷◌, ◌++◌, length, map, reverse, take, get_or, refl, ap, sym, ◌∙◌, arith}
-use Rattle.std.proofs.lemmas.{Bool.Decides.nat_tests, List.map-append, List.reverse-append, List.reverse-reverse, List.take_all, List.take_more}
+use Rattle.std.proofs.{Common.{ℕ, ◌≡◌, ◌+◌, ◌<◌, ◌≤◌, nat_lt, if◌then◌else◌, true, false, Bool, Some, None, List, [], ◌∷◌, ◌++◌, length, map, reverse, take, get_or, refl, ap, sym, ◌∙◌, arith}, lemmas.{Bool.Decides.nat_tests, List.{map-append, reverse-append, reverse-reverse, take_all, take_more}}}
 use Rattle.tc_rules.specs.Prelude.{Case, Entry, Run, past_of}
 use Rattle.tc_step.specs.Prelude.{ScriptView}
-use Rattle.tc_course.specs.Prelude.{IsCourse, IsOn, turn}
-use Rattle.tc_course.proofs.Lemmas.{course_legal, has_turn, run_in_range, stand_comp}
+use Rattle.tc_course.{specs.Prelude.{IsCourse, IsOn, turn}, proofs.Lemmas.{course_legal, has_turn, run_in_range, stand_comp}}
 use Rattle.tc_explore.specs.Inside.Played.{made_if, made_next, played, turn_within}
 
 played_last : (scripts : List ScriptView) (past : List Entry) (calls : List Run) (run : Run) → played scripts past (calls ++ run ∷ []) ≡ made_next scripts run (played scripts past calls)

@@ -1,6 +1,5 @@
 -- The steps of scripts together, what there is room for, and how far a search went.
-use Rattle.std.proofs.Common.{ℕ, ◌≡◌, ◌+◌, ◌*◌, ◌/◌, ◌<◌, ◌≤◌, List, [], ◌∷◌, ◌++◌, length, take, get_or, refl, ap, ◌∙◌, arith, ◌&&◌, Bool, true, false}
-use Rattle.std.proofs.Math.Nat.{le-div_iff_mul-le, div-le_self}
+use Rattle.std.proofs.Common.{ℕ, ◌≡◌, ◌+◌, ◌<◌, ◌≤◌, List, [], ◌∷◌, ◌++◌, length, take, get_or, refl, ap, ◌∙◌, arith, ◌&&◌, Bool, true, false}
 use Rattle.std.proofs.lemmas.List.{take_more}
 use Rattle.tc_step.specs.Prelude.{ScriptView}
 use Rattle.tc_explore.specs.Limits.{room_of}
@@ -12,18 +11,6 @@ room_last (y ∷ xs) x = ap (λ n. n + length y.steps) (room_last xs x) ∙ omeg
 -- one script more
 pub room_more : (xs : List ScriptView) (i : ℕ) (d : ScriptView) → i < length xs → room_of (take (i + 1) xs) ≡ room_of (take i xs) + length (get_or xs i d).steps
 room_more xs i d near = ap room_of (take_more xs i d near) ∙ room_last (take i xs) (get_or xs i d)
-
--- as many as there is room for
-pub room_for : (x n most : ℕ) → 1 ≤ n → x ≤ most / n → x * n ≤ most
-room_for x n most some few = (le-div_iff_mul-le {k = n} {x = x} {y = most} (omega (arith, some))).0 few
-
-pub ruleset room_rules = (room_more, room_for)
-
--- as many as there are, each counted for its weight
-pub counted_all : (x n most : ℕ) → 1 ≤ n → x ≤ most / n → (x * n ≤ most) × (x ≤ most)
-counted_all x n most some few = (room_for x n most some few, let less = div-le_self most n in omega (arith, less, few))
-
-pub ruleset weight_rules = (counted_all, room_for, div-le_self)
 
 -- the first state was taken in, and what comes after each is seen
 pub whole : (placed closed : Bool) → (placed && closed) ≡ true → (placed ≡ true) × (closed ≡ true)

@@ -1,14 +1,9 @@
 -- What two courses of which the same is known represent.
-use Rattle.std.proofs.Common.{ℕ, suc, ◌≡◌, ◌+◌, ◌<◌, ◌≤◌, ◌&&◌, nat_lt, nat_le, if◌then◌else◌, Bool, true, false, Option, Some, None, List, [], ◌∷◌, ◌++◌, length, refl, ap, sym, subst, ◌∙◌, arith, ⊎_elim, inl, inr}
-use Rattle.std.proofs.lemmas.Bool.Decides.{nat_tests}
-use Rattle.tc_rules.specs.Prelude.{Run, Verdict, level_of, Comp, Entry, Phase, comps, comp_of, created, add_new, exists, is_in, is_alive_type, phase, phase_if_any, components, is_active, IsLegal}
+use Rattle.std.proofs.{Common.{ℕ, suc, ◌≡◌, ◌+◌, ◌<◌, ◌≤◌, ◌&&◌, nat_lt, nat_le, if◌then◌else◌, Bool, true, false, Option, Some, None, List, [], ◌∷◌, ◌++◌, length, refl, ap, sym, subst, ◌∙◌, arith, ⊎_elim, inl, inr}, lemmas.Bool.Decides.nat_tests}
+use Rattle.tc_rules.{specs.{Prelude.{Run, Verdict, level_of, Comp, Entry, Phase, comps, comp_of, created, add_new, exists, is_in, is_alive_type, phase, phase_if_any, components, is_active, IsLegal}, Inside.Kept.numbers_from, declared.component_state.ComponentState.ComponentState}, proofs.Lemmas.{Numbers.{is_in-numbers_from, length-numbers_from, numbers_from-more}, Sound.next}}
 use Rattle.tc_step.specs.Prelude.{ScriptView}
-use Rattle.tc_rules.specs.{Inside.Kept.numbers_from, declared.component_state.ComponentState.ComponentState}
-use Rattle.tc_rules.proofs.Lemmas.{Numbers.is_in-numbers_from, Numbers.length-numbers_from, Numbers.numbers_from-more, Sound.next}
-use Rattle.tc_course.specs.Prelude.{stand, IsCourse}
-use Rattle.tc_course.proofs.Lemmas.{course_legal, stand_comp, run_in_range}
-use Rattle.tc_explore.specs.Inside.{Seen.IsSame, Simulation.IsAlike, Simulation.IsFollowed, Simulation.IsFor, Twins.comp_code, Twins.phase_code}
-use Rattle.tc_explore.proofs.{Ahead.KeepsQuiet, Ahead.ahead_after, Alike.active_alike, Alike.alike_sym, Alike.fresh, Ordered.order_alike, Simulation.followed_later, Simulation.quiet_alike}
+use Rattle.tc_course.{specs.Prelude.{stand, IsCourse}, proofs.Lemmas.{course_legal, stand_comp, run_in_range}}
+use Rattle.tc_explore.{specs.Inside.{Seen.IsSame, Simulation.{IsAlike, IsFollowed, IsFor}, Twins.{comp_code, phase_code}}, proofs.{Ahead.{KeepsQuiet, ahead_after}, Alike.{active_alike, alike_sym, fresh}, Ordered.order_alike, Simulation.{followed_later, quiet_alike}}}
 
 -- the components are numbered in the order of their creation
 numbered : (n : ℕ) (past : List Entry) → IsLegal n past → comps past ≡ numbers_from 0 (components past)
@@ -111,26 +106,11 @@ same_verdict Verdict.Pass Verdict.Pass h = refl
 same_verdict Verdict.Inconc Verdict.Inconc h = refl
 same_verdict Verdict.Fail Verdict.Fail h = refl
 same_verdict Verdict.Error Verdict.Error h = refl
-same_verdict Verdict.None Verdict.Pass h = absurd (omega arith)
-same_verdict Verdict.None Verdict.Inconc h = absurd (omega arith)
-same_verdict Verdict.None Verdict.Fail h = absurd (omega arith)
-same_verdict Verdict.None Verdict.Error h = absurd (omega arith)
-same_verdict Verdict.Pass Verdict.None h = absurd (omega arith)
-same_verdict Verdict.Pass Verdict.Inconc h = absurd (omega arith)
-same_verdict Verdict.Pass Verdict.Fail h = absurd (omega arith)
-same_verdict Verdict.Pass Verdict.Error h = absurd (omega arith)
-same_verdict Verdict.Inconc Verdict.None h = absurd (omega arith)
-same_verdict Verdict.Inconc Verdict.Pass h = absurd (omega arith)
-same_verdict Verdict.Inconc Verdict.Fail h = absurd (omega arith)
-same_verdict Verdict.Inconc Verdict.Error h = absurd (omega arith)
-same_verdict Verdict.Fail Verdict.None h = absurd (omega arith)
-same_verdict Verdict.Fail Verdict.Pass h = absurd (omega arith)
-same_verdict Verdict.Fail Verdict.Inconc h = absurd (omega arith)
-same_verdict Verdict.Fail Verdict.Error h = absurd (omega arith)
-same_verdict Verdict.Error Verdict.None h = absurd (omega arith)
-same_verdict Verdict.Error Verdict.Pass h = absurd (omega arith)
-same_verdict Verdict.Error Verdict.Inconc h = absurd (omega arith)
-same_verdict Verdict.Error Verdict.Fail h = absurd (omega arith)
+same_verdict _ _ h = absurd (omega arith)
+
+pub at_most_error : (w : Verdict) → level_of w ≤ 4
+at_most_error Verdict.None = omega arith
+at_most_error _ = omega arith
 
 -- what represents a history, and is the same as another, so does that
 pub same_for : {aim : Verdict} (scripts : List ScriptView) (q r p : List Entry) → IsSame q r → IsFor aim scripts q p → IsFor aim scripts r p
@@ -158,28 +138,9 @@ same_phase (Some (Phase.Running r)) (Some (Phase.Running s)) h = same_run r s (o
     same_run : (x y : Run) → x.0 ≡ y.0 → Some (Phase.Running x) ≡ Some (Phase.Running y)
     same_run x y e = ap (λ (m : ℕ). Some (Phase.Running (record { 0 = m }))) e
 same_phase None (Some Phase.Inactive) h = absurd (omega arith)
-same_phase None (Some Phase.Stopped) h = absurd (omega arith)
-same_phase None (Some Phase.Killed) h = absurd (omega arith)
-same_phase None (Some (Phase.Running r)) h = absurd (omega arith)
-same_phase (Some Phase.Inactive) None h = absurd (omega arith)
-same_phase (Some Phase.Inactive) (Some Phase.Stopped) h = absurd (omega arith)
-same_phase (Some Phase.Inactive) (Some Phase.Killed) h = absurd (omega arith)
-same_phase (Some Phase.Inactive) (Some (Phase.Running r)) h = absurd (omega arith)
-same_phase (Some Phase.Stopped) None h = absurd (omega arith)
-same_phase (Some Phase.Stopped) (Some Phase.Inactive) h = absurd (omega arith)
-same_phase (Some Phase.Stopped) (Some Phase.Killed) h = absurd (omega arith)
-same_phase (Some Phase.Stopped) (Some (Phase.Running r)) h = absurd (omega arith)
-same_phase (Some Phase.Killed) None h = absurd (omega arith)
-same_phase (Some Phase.Killed) (Some Phase.Inactive) h = absurd (omega arith)
-same_phase (Some Phase.Killed) (Some Phase.Stopped) h = absurd (omega arith)
-same_phase (Some Phase.Killed) (Some (Phase.Running r)) h = absurd (omega arith)
-same_phase (Some (Phase.Running r)) None h = absurd (omega arith)
-same_phase (Some (Phase.Running r)) (Some Phase.Inactive) h = absurd (omega arith)
-same_phase (Some (Phase.Running r)) (Some Phase.Stopped) h = absurd (omega arith)
-same_phase (Some (Phase.Running r)) (Some Phase.Killed) h = absurd (omega arith)
+same_phase _ _ h = absurd (omega arith)
 
 pub same_comp : (a b : Option Comp) → comp_code a ≡ comp_code b → a ≡ b
 same_comp None None h = refl
 same_comp (Some c) (Some d) h = let e : c.0 ≡ d.0 = omega arith in ap (λ (m : ℕ). Some (record { 0 = m })) e
-same_comp None (Some d) h = absurd (omega arith)
-same_comp (Some c) None h = absurd (omega arith)
+same_comp _ _ h = absurd (omega arith)

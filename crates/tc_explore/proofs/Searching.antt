@@ -1,12 +1,23 @@
 -- What one more quiet call of a search represents.
-use Rattle.std.proofs.Common.{ℕ, ◌≡◌, ◌==◌, ◌&&◌, ◌||◌, not, nat_lt, Option, inl, inr, true, false, None, Some, List, [], ◌∷◌, ◌++◌, length, refl, ap, sym, subst, ◌∙◌, append_assoc, if◌then◌else◌, Bool}
-use Rattle.tc_rules.specs.Prelude.{Run, Comp, Entry, Op, Phase, phase, phase_if_any, is_ended, is_fault, Case, past_of, comp_of, is_alive_type, is_comp, exists, overall, answer, Verdict, Target, Group, Reply}
+use Rattle.std.proofs.{lemmas.Bool.and_parts, Common.{ℕ, ◌≡◌, ◌==◌, ◌&&◌, ◌||◌, not, nat_lt, Option, inl, inr, true, false, None, Some, List, [], ◌∷◌, ◌++◌, length, refl, ap, sym, subst, ◌∙◌, append_assoc, if◌then◌else◌, Bool}}
+use Rattle.tc_rules.{specs.Prelude.{Run, Comp, Entry, Op, Phase, phase, phase_if_any, created, is_ended, is_fault, is_wake, Case, past_of, comp_of, is_alive_type, is_comp, exists, is_active, overall, answer, Verdict, Target, Group, Reply, entry_made}, proofs.Lemmas.{Deciding.equal_if, Sound.plain_if}}
 use Rattle.tc_step.specs.Prelude.{ScriptView}
-use Rattle.tc_rules.proofs.Lemmas.{Deciding.equal_if, Sound.plain_if}
-use Rattle.tc_course.specs.Prelude.{stand, IsTurn, IsCourse, turn, entry_made, IsOn}
-use Rattle.tc_course.proofs.Lemmas.{course_legal, stand_own, stand_comp}
-use Rattle.tc_explore.specs.Inside.{Seen.StandsOn, Simulation.IsAlike, Simulation.IsBarredNow, Simulation.IsEnd, Simulation.IsFelled, Simulation.IsFelling, Simulation.IsFollowed, Simulation.IsFor, Simulation.IsQuietAt, Simulation.IsSilent, Simulation.IsWakeOf, Simulation.bars_next, Simulation.is_end, Simulation.is_felled, Simulation.is_felling, Simulation.is_late, Simulation.is_met, Simulation.is_quiet, Simulation.is_silent, Simulation.is_spent}
-use Rattle.tc_explore.proofs.{Alike.alike_unchanged, Alike.fault_alike, Felling.lead_felling, Felling.next_of, Late.alike_late, Late.halt_not_ending, Late.late_for, Late.late_halts, Late.late_reply, Late.met_for, Late.met_reply, Late.other_than_gone, Leaving.Ends, Leaving.lead_end, Leaving.running_on, Places.Spent, Places.ahead, Places.how_spent, Places.keeps_quiet, Places.not_ending, Places.quiet_no_wake, Places.quiet_sets_no_wake, Places.spent_late, Places.spent_met, Places.spent_quiet, Simulation.followed_later, Simulation.lead, Simulation.quiet_made, Simulation.some_if, Simulation.unchanged_quiet, Simulation.unchanged_wait}
+use Rattle.tc_course.{specs.{Inside.{ends, wake_if}, Prelude.{stand, IsTurn, IsCourse, turn, IsOn}}, proofs.Lemmas.{course_legal, stand_own, stand_comp}}
+use Rattle.tc_explore.{specs.Inside.{Seen.StandsOn, Simulation.{IsAlike, IsBarredNow, IsEnd, IsFelled, IsFelling, IsFollowed, IsFor, IsQuietAt, IsSilent, IsWakeOf, bars_next, is_end, is_felled, is_felling, is_late, is_met, is_quiet, is_silent, is_spent}}, proofs.{Alike.{alike_unchanged, fault_alike}, Felling.{lead_felling, next_of}, Late.{alike_late, halt_not_ending, late_for, late_halts, late_reply, met_for, met_reply, other_than_gone}, Leaving.{Ends, lead_end, running_on}, Places.{Spent, ahead, how_spent, keeps_quiet, not_ending, quiet_no_wake, quiet_sets_no_wake, spent_late, spent_met, spent_quiet}, Simulation.{followed_later, lead, quiet_made, some_if, unchanged_quiet, unchanged_wait}}}
+
+-- a call that is quiet once it is made, and does not end its run
+lead_own : {aim : Verdict} (scripts : List ScriptView) (p q : List Entry) (e : Entry) → IsCourse scripts p → IsCourse scripts (e ∷ q) → IsFor aim scripts q p → is_active q e.caller.0 ≡ true → IsAlike (e ∷ q) q → IsQuietAt (length scripts) (e ∷ q) e.caller.0 e.op →
+    created e.op e.reply ≡ None → ((me : Comp) → (stand q e.caller.0).comp ≡ Some me → comp_of q e.caller.0 ≡ Some me → ends (stand q e.caller.0).comp e ≡ false) → is_wake e.op ≡ false → wake_if e.op e.reply ≡ None → IsFor aim scripts (e ∷ q) p
+lead_own scripts p q e cp cq f active after now made stays_on plain no_wake =
+    let me = some_if q e.caller.0 active in
+    let fol = f.runs e.caller.0 active in
+    let call = next_of scripts q e.caller.0 e.op fol.no_wake cq.0.turn in
+    lead scripts p q e cp cq f after (λ act.
+    subst (λ s. IsFollowed scripts (e ∷ q) e.caller.0 (stand p e.caller.0) s) (sym (stand_own q e e.caller.0 refl))
+    (ahead scripts q e.caller.0 (stand p e.caller.0) (stand q e.caller.0) e
+    (followed_later scripts q (e ∷ q) e.caller.0 (stand p e.caller.0) (stand q e.caller.0) (keeps_quiet (length scripts) q e (course_legal scripts (e ∷ q) cq)) fol)
+    (subst (λ op. IsQuietAt (length scripts) (e ∷ q) e.caller.0 op) (sym call) now)
+    made (stays_on me.0 (stand_comp scripts q e.caller.0 cq.1 ∙ me.1) me.1) plain no_wake))
 
 -- a call that is no error, and asks a question or sets a verdict that is no worse than this one
 lead_quiet : {aim : Verdict} (w : Verdict) (scripts : List ScriptView) (p q : List Entry) (e : Entry) → IsCourse scripts p → IsCourse scripts (e ∷ q) → is_fault e.reply ≡ false → is_ended e.reply ≡ false → is_quiet w e.op ≡ true →
@@ -16,20 +27,11 @@ lead_quiet w scripts p q e cp cq plain on quiet f =
     let legal = course_legal scripts (e ∷ q) cq in
     let u = unchanged_quiet w q e quiet plain in
     let after : IsAlike (e ∷ q) q = alike_unchanged (length scripts) q e legal u in
-    let me = some_if q e.caller.0 is.active in
-    let fol = f.runs e.caller.0 is.active in
-    let here : (stand q e.caller.0).comp ≡ Some me.0 = stand_comp scripts q e.caller.0 cq.1 ∙ me.1 in
-    let call = next_of scripts q e.caller.0 e.op fol.no_wake cq.0.turn in
     let now : IsQuietAt (length scripts) (e ∷ q) e.caller.0 e.op = record {
       quiet = spent_quiet (e ∷ q) e.op (quiet_made w (length scripts) q e.caller.0 e legal quiet is.is);
       no_fault = fault_alike after (length scripts) e.caller.0 e.op ∙ is.no_fault;
     } in
-    lead scripts p q e cp cq f after (λ act.
-    subst (λ s. IsFollowed scripts (e ∷ q) e.caller.0 (stand p e.caller.0) s) (sym (stand_own q e e.caller.0 refl))
-    (ahead scripts q e.caller.0 (stand p e.caller.0) (stand q e.caller.0) e
-    (followed_later scripts q (e ∷ q) e.caller.0 (stand p e.caller.0) (stand q e.caller.0) (keeps_quiet (length scripts) q e legal) fol)
-    (subst (λ op. IsQuietAt (length scripts) (e ∷ q) e.caller.0 op) (sym call) now)
-    u.made (not_ending q e (stand q e.caller.0).comp me.0 u here me.1 on) (quiet_no_wake w e.op quiet) (quiet_sets_no_wake w e.op e.reply quiet)))
+    lead_own scripts p q e cp cq f is.active after now u.made (λ me here own. not_ending q e (stand q e.caller.0).comp me u here own on) (quiet_no_wake w e.op quiet) (quiet_sets_no_wake w e.op e.reply quiet)
 
 -- a stop or kill of what is killed already
 lead_late : {aim : Verdict} (scripts : List ScriptView) (p q : List Entry) (e : Entry) → IsCourse scripts p → IsCourse scripts (e ∷ q) → is_fault e.reply ≡ false → is_ended e.reply ≡ false → is_late q e.op ≡ true →
@@ -39,18 +41,9 @@ lead_late scripts p q e cp cq plain on late f =
     let l = late_for q e.op late in
     let h = late_halts q q e late (is.is ∙ late_reply q q e.caller.0 e.op late) in
     let after : IsAlike (e ∷ q) q = alike_late (length scripts) (course_legal scripts (e ∷ q) cq) h l.1.gone in
-    let me = some_if q e.caller.0 is.active in
-    let fol = f.runs e.caller.0 is.active in
-    let here : (stand q e.caller.0).comp ≡ Some me.0 = stand_comp scripts q e.caller.0 cq.1 ∙ me.1 in
-    let call = next_of scripts q e.caller.0 e.op fol.no_wake cq.0.turn in
     let now : IsQuietAt (length scripts) q e.caller.0 e.op = record { quiet = spent_late q e.op late; no_fault = is.no_fault } in
     let keeps = keeps_quiet (length scripts) q e (course_legal scripts (e ∷ q) cq) in
-    lead scripts p q e cp cq f after (λ act.
-    subst (λ s. IsFollowed scripts (e ∷ q) e.caller.0 (stand p e.caller.0) s) (sym (stand_own q e e.caller.0 refl))
-    (ahead scripts q e.caller.0 (stand p e.caller.0) (stand q e.caller.0) e
-    (followed_later scripts q (e ∷ q) e.caller.0 (stand p e.caller.0) (stand q e.caller.0) keeps fol)
-    (subst (λ op. IsQuietAt (length scripts) (e ∷ q) e.caller.0 op) (sym call) (keeps e.caller.0 e.op now))
-    h.made (halt_not_ending h (stand q e.caller.0).comp me.0 here (other_than_gone q e.caller.0 l.0.0 me.0 is.active me.1 l.1.gone.dead)) h.plain h.no_wake))
+    lead_own scripts p q e cp cq f is.active after (keeps e.caller.0 e.op now) h.made (λ me here own. halt_not_ending h (stand q e.caller.0).comp me here (other_than_gone q e.caller.0 l.0.0 me is.active own l.1.gone.dead)) h.plain h.no_wake
 
 -- a wait for what is killed already
 lead_met : {aim : Verdict} (scripts : List ScriptView) (p q : List Entry) (e : Entry) → IsCourse scripts p → IsCourse scripts (e ∷ q) → is_fault e.reply ≡ false → is_ended e.reply ≡ false → is_met q e.op ≡ true →
@@ -62,18 +55,9 @@ lead_met scripts p q e cp cq plain on met f =
     let of : IsWakeOf e.op (Op.Wake m.for_kill (Target.One m.comp)) = record { killed = m.for_kill; target = Target.One m.comp; waits = m.waits; wakes = refl } in
     let u = unchanged_wait q e (Op.Wake m.for_kill (Target.One m.comp)) of plain in
     let after : IsAlike (e ∷ q) q = alike_unchanged (length scripts) q e (course_legal scripts (e ∷ q) cq) u in
-    let me = some_if q e.caller.0 is.active in
-    let fol = f.runs e.caller.0 is.active in
-    let here : (stand q e.caller.0).comp ≡ Some me.0 = stand_comp scripts q e.caller.0 cq.1 ∙ me.1 in
-    let call = next_of scripts q e.caller.0 e.op fol.no_wake cq.0.turn in
     let now : IsQuietAt (length scripts) q e.caller.0 e.op = record { quiet = spent_met q e.op met; no_fault = is.no_fault } in
     let keeps = keeps_quiet (length scripts) q e (course_legal scripts (e ∷ q) cq) in
-    lead scripts p q e cp cq f after (λ act.
-    subst (λ s. IsFollowed scripts (e ∷ q) e.caller.0 (stand p e.caller.0) s) (sym (stand_own q e e.caller.0 refl))
-    (ahead scripts q e.caller.0 (stand p e.caller.0) (stand q e.caller.0) e
-    (followed_later scripts q (e ∷ q) e.caller.0 (stand p e.caller.0) (stand q e.caller.0) keeps fol)
-    (subst (λ op. IsQuietAt (length scripts) (e ∷ q) e.caller.0 op) (sym call) (keeps e.caller.0 e.op now))
-    u.made (not_ending q e (stand q e.caller.0).comp me.0 u here me.1 on) (rw m.waits refl) (rw matched refl)))
+    lead_own scripts p q e cp cq f is.active after (keeps e.caller.0 e.op now) u.made (λ me here own. not_ending q e (stand q e.caller.0).comp me u here own on) (rw m.waits refl) (rw matched refl)
 
 -- a call that changes nothing, and is no error
 lead_spent : {aim : Verdict} (scripts : List ScriptView) (p q : List Entry) (e : Entry) → IsCourse scripts p → IsCourse scripts (e ∷ q) → is_fault e.reply ≡ false → is_ended e.reply ≡ false → is_spent q e.op ≡ true →
@@ -118,17 +102,13 @@ lead_call {aim} scripts t u run op on turn plain goes h is =
 
 -- ---- what the search finds of a call
 
-both_if : (a b : Bool) → (a && b) ≡ true → (a ≡ true) × (b ≡ true)
-both_if true b h = (refl, h)
-both_if false b h = absurd cc
-
 not_if : (a : Bool) → not a ≡ true → a ≡ false
 not_if false h = refl
 not_if true h = absurd cc
 
 end_if : (q : List Entry) (b : ℕ) (on : Option Comp) (op : Op) → (stand q b).comp ≡ on → is_end q b on op ≡ true → IsEnd q b op
 end_if q b (Some c) Op.Finish on h =
-    let both = both_if (not (b == 0)) (not (is_alive_type q c.0)) h in
+    let both = and_parts (not (b == 0)) (not (is_alive_type q c.0)) h in
     record { finish = refl; not_main = not_if (b == 0) both.0; comp = c; on = on; ordinary = not_if (is_alive_type q c.0) both.1 }
 end_if q b (Some c) op on h = absurd cc
 end_if q b None op on h = absurd cc
@@ -148,12 +128,12 @@ on_if None c h = absurd cc
 felled_if : (aim : Verdict) (scripts : List ScriptView) (q : List Entry) (b : ℕ) (comp : Comp) (at : Option Phase) → phase_if_any q comp.0 ≡ at → is_felled aim scripts q b comp at ≡ true → IsFelled aim scripts q b comp
 unfolding phase_if_any
 felled_if aim scripts q b comp (Some (Phase.Running run)) there h =
-    let both = both_if (nat_lt run.0 (length scripts) && (not (comp.0 == 0) && (not (run.0 == 0) && not (b == run.0)))) _ h in
-    let front = both_if (nat_lt run.0 (length scripts)) _ both.0 in
-    let comps = both_if (not (comp.0 == 0)) _ front.1 in
-    let runs = both_if (not (run.0 == 0)) (not (b == run.0)) comps.1 in
-    let back = both_if (is_comp (stand q run.0).comp comp.0) _ both.1 in
-    let last = both_if (not (is_alive_type q comp.0)) (bars_next aim (turn scripts q run.0)) back.1 in
+    let both = and_parts (nat_lt run.0 (length scripts) && (not (comp.0 == 0) && (not (run.0 == 0) && not (b == run.0)))) _ h in
+    let front = and_parts (nat_lt run.0 (length scripts)) _ both.0 in
+    let comps = and_parts (not (comp.0 == 0)) _ front.1 in
+    let runs = and_parts (not (run.0 == 0)) (not (b == run.0)) comps.1 in
+    let back = and_parts (is_comp (stand q run.0).comp comp.0) _ both.1 in
+    let last = and_parts (not (is_alive_type q comp.0)) (bars_next aim (turn scripts q run.0)) back.1 in
     record {
       not_main = not_if (comp.0 == 0) comps.0;
       run = run;

@@ -1,12 +1,9 @@
 -- What a search has seen and found stays so while its lists grow.
-use Rattle.std.proofs.Common.{ℕ, ◌≡◌, ◌<◌, ◌==◌, ◌||◌, true, Some, List, [], ◌∷◌, ◌++◌, length, slice_get, refl, ap, sym, ◌∙◌, arith, append-nil, length-append}
-use Rattle.std.proofs.lemmas.{List.Elements.All-push, List.Folds.list_any-append, List.get_or_append_left, Option.get_or_from_slice_get, Option.slice_get-get_or, Option.slice_get_within}
-use Rattle.std.proofs.Math.Seq.{get_or-append_seam}
+use Rattle.std.proofs.{Common.{ℕ, ◌≡◌, ◌<◌, ◌==◌, ◌||◌, true, Some, List, [], ◌∷◌, ◌++◌, length, slice_get, refl, ap, sym, ◌∙◌, arith, append-nil, length-append}, lemmas.{List.{Elements.All-push, Folds.list_any-append, get_or_append_left}, Option.{get_or_from_slice_get, slice_get-get_or, slice_get_within}}, Math.Seq.get_or-append_seam}
 use Rattle.tc_rules.specs.Prelude.{Verdict, level_of, Entry, Case, past_of}
 use Rattle.tc_step.specs.Prelude.{ScriptView}
-use Rattle.tc_course.specs.declared.witness.Witness.{Witness}
-use Rattle.tc_course.specs.Prelude.{is_found}
-use Rattle.tc_explore.specs.Inside.{Seen.IsLonger, Seen.IsSame, Seen.IsSeen, Seen.StandsOn, Simulation.IsClosedFor, Simulation.IsCovered}
+use Rattle.tc_course.specs.{declared.witness.Witness.Witness, Prelude.is_found}
+use Rattle.tc_explore.specs.Inside.{Seen.{IsLonger, IsSame, IsSeen, StandsOn}, Simulation.{IsClosedFor, IsCovered}, Twins.IsKnown}
 
 pub seen_at : (states : List Case) (i : ℕ) (t : Case) (r : List Entry) → slice_get states i ≡ Some t → IsSame r (past_of t) → IsSeen states r
 seen_at states i t r here same = (i, t, here, same)
@@ -22,10 +19,6 @@ get_last xs t =
     let near : length xs < length (xs ++ t ∷ []) = omega (arith, length-append xs (t ∷ [])) in
     slice_get-get_or (xs ++ t ∷ []) (length xs) t near ∙ ap Some (get_or-append_seam xs t [] t)
 
--- the state that was taken in last
-pub seen_last : (states : List Case) (t : Case) → IsSame (past_of t) (past_of t) → IsSeen (states ++ t ∷ []) (past_of t)
-seen_last states t same = (length states, t, get_last states t, same)
-
 pub longer_self : {A : Type 0} (xs : List A) → IsLonger xs xs
 longer_self xs = ([], sym (append-nil xs))
 
@@ -34,6 +27,9 @@ longer_by xs x = (x ∷ [], refl)
 
 pub seen_longer : (a b : List Case) (r : List Entry) → IsLonger a b → IsSeen a r → IsSeen b r
 seen_longer a b r more seen = (seen.0, seen.1, ap (λ x. slice_get x seen.0) more.1 ∙ get_more a more.0 seen.0 seen.1 seen.2, seen.3)
+
+pub known_longer : (of : List Entry → List ℕ) (a b : List Case) (r : List Entry) → IsLonger a b → IsKnown of a r → IsKnown of b r
+known_longer of a b r more known = (known.0, known.1, ap (λ x. slice_get x known.0) more.1 ∙ get_more a more.0 known.0 known.1 known.2, known.3)
 
 pub found_longer : (a b : List Witness) (v : Verdict) → IsLonger a b → is_found a v ≡ true → is_found b v ≡ true
 found_longer a b v more h =
@@ -54,4 +50,4 @@ closed_for_longer scripts a b f g q e states found c = record {
   more = λ h within. covered_longer scripts a b (e ∷ q) states (c.more h within);
 }
 
-pub ruleset seeing_rules = (seen_at, seen_last, longer_self, longer_by, All-push)
+pub ruleset seeing_rules = (seen_at, longer_self, longer_by, All-push)

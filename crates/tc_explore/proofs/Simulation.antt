@@ -1,15 +1,10 @@
 -- A history that represents another still does after one more turn of either.
-use Rattle.std.proofs.Common.{ℕ, ◌≡◌, ◌==◌, ◌⊎◌, not, Bool, true, false, Option, Some, None, MatchOption, List, ◌∷◌, length, refl, ap, sym, subst, ◌∙◌, arith, ◌≤◌, ⊎_elim, inl, inr}
-use Rattle.std.proofs.lemmas.Bool.Decides.{nat_tests}
-use Rattle.tc_rules.specs.Prelude.{Verdict, worse, level_of, given, Comp, Entry, Op, Reply, is_fault, is_ok, comp_of, created, starts_run, started_on, phase, start_in, overall, gives, setting, is_active, plain_answer, halting_op, IsLegal, Phase}
+use Rattle.std.proofs.{Common.{ℕ, ◌≡◌, ◌==◌, ◌⊎◌, not, Bool, true, false, Option, Some, None, MatchOption, List, ◌∷◌, length, refl, ap, sym, subst, ◌∙◌, arith, ◌≤◌, ⊎_elim, inl, inr}, lemmas.Bool.Decides.nat_tests}
+use Rattle.tc_rules.{specs.{Prelude.{Verdict, worse, level_of, given, Comp, Entry, Op, Reply, is_fault, is_ok, comp_of, created, starts_run, started_on, phase, start_in, overall, gives, setting, is_active, plain_answer, halting_op, IsLegal, Phase}, Inside.Step.next_local}, proofs.Lemmas.{Deciding.{and_left, equal_if, if_same}, Going.{halted_by_entry, others_halt_nothing}, Kept.inactive}}
 use Rattle.tc_step.specs.Prelude.{ScriptView}
-use Rattle.tc_rules.specs.Inside.Step.{next_local}
-use Rattle.tc_rules.proofs.Lemmas.{Deciding.and_left, Deciding.equal_if, Deciding.if_same, Going.halted_by_entry, Going.others_halt_nothing, Kept.inactive}
-use Rattle.tc_course.specs.Prelude.{CourseState, stand, IsCourse}
-use Rattle.tc_course.proofs.Lemmas.{course_legal, stand_other, stand_comp}
+use Rattle.tc_course.{specs.Prelude.{CourseState, stand, IsCourse}, proofs.Lemmas.{course_legal, stand_other, stand_comp}}
 use Rattle.tc_verdict.proofs.Lemmas.Order.{worse_right}
-use Rattle.tc_explore.specs.Inside.Simulation.{IsAlike, is_quiet, call_at, IsWakeOf, IsBefore, IsParkedAt, IsFollowed, IsLeaving, IsEnding, IsAhead, IsFor}
-use Rattle.tc_explore.proofs.{Ahead.KeepsQuiet, Ahead.ahead_after, Ahead.ahead_turn, Alike.ChangesNothing, Alike.active_alike, Alike.alike_sym, Alike.alike_unchanged, Alike.fault_alike, Alike.late_alike, Alike.met_alike, Alike.overall_grows, Alike.overall_next, Alike.worse_most, Ordered.order_alike, Ordered.order_both, Ordered.order_stays, Places.keeps_quiet}
+use Rattle.tc_explore.{specs.Inside.Simulation.{IsAlike, is_quiet, call_at, IsWakeOf, IsBefore, IsParkedAt, IsFollowed, IsLeaving, IsEnding, IsAhead, IsFor}, proofs.{Ahead.{KeepsQuiet, ahead_after, ahead_turn}, Alike.{ChangesNothing, active_alike, alike_sym, alike_unchanged, fault_alike, late_alike, met_alike, overall_grows, overall_next, worse_most}, Ordered.{order_alike, order_both, order_stays}, Places.keeps_quiet}}
 
 -- ---- entries that change nothing
 
@@ -29,10 +24,7 @@ made_by_ended _ = refl
 
 passive_never_halts : (op : Op) → is_passive op ≡ true → halting_op op ≡ false
 passive_never_halts (Op.Stop g) h = absurd cc
-passive_never_halts (Op.Kill g) h = absurd cc
-passive_never_halts Op.StopCase h = absurd cc
-passive_never_halts Op.Finish h = absurd cc
-passive_never_halts _ h = refl
+passive_never_halts _ h = cc
 
 starts_none : (op : Op) (b : ℕ) → is_passive op ≡ true → starts_run op b ≡ None
 starts_none (Op.Start c run args) b h = absurd cc
@@ -64,12 +56,8 @@ ended_kept n past e legal r = overall_next n past e legal ∙ rw r refl
 -- a quiet call makes the verdict no worse than this one
 set_within : (w : Verdict) (op : Op) (x : Verdict) → is_quiet w op ≡ true → level_of x ≤ level_of w → level_of (next_local (setting op) x) ≤ level_of w
 set_within w (Op.SetVerdict v) x h l = let m : level_of (given v) ≤ level_of w = grind (arith, nat_tests) in worse_most x (given v) (level_of w) l m
-set_within w Op.GetVerdict x h l = l
-set_within w (Op.Running t) x h l = l
-set_within w (Op.Alive t) x h l = l
-set_within w (Op.Done t) x h l = l
-set_within w (Op.Killed t) x h l = l
-set_within w _ x h l = absurd cc
+set_within w Op.StopCase x h l = absurd cc
+set_within w _ x h l = l
 
 gift_within : (w : Verdict) (op : Op) (r : Reply) (x : Verdict) → is_fault r ≡ false → is_quiet w op ≡ true → level_of x ≤ level_of w → level_of (next_local (gives op r) x) ≤ level_of w
 gift_within w op Reply.Ok x f h l = set_within w op x h l
@@ -85,12 +73,7 @@ made_by w x y past b (Op.SetVerdict v) r h is k =
     let m : y ≡ worse x (given v) = k ∙ rw is refl in
     let l : level_of (given v) ≤ level_of y = subst (λ z. level_of (given v) ≤ level_of z) (sym m) (worse_right x (given v)) in
     grind (arith, nat_tests)
-made_by w x y past b Op.GetVerdict r h is k = refl
-made_by w x y past b (Op.Running t) r h is k = refl
-made_by w x y past b (Op.Alive t) r h is k = refl
-made_by w x y past b (Op.Done t) r h is k = refl
-made_by w x y past b (Op.Killed t) r h is k = refl
-made_by w x y past b _ r h is k = absurd cc
+made_by w x y past b _ r h is k = h
 
 -- once it is made it sets no worse verdict
 pub quiet_made : (w : Verdict) (n : ℕ) (past : List Entry) (b : ℕ) (e : Entry) → IsLegal n (e ∷ past) → is_quiet w e.op ≡ true → e.reply ≡ plain_answer past b e.op → is_quiet (overall (e ∷ past)) e.op ≡ true
@@ -98,12 +81,7 @@ quiet_made w n past b e legal quiet is = made_by w (overall past) (overall (e �
 
 quiet_passive : (w : Verdict) (op : Op) → is_quiet w op ≡ true → is_passive op ≡ true
 quiet_passive w (Op.SetVerdict v) h = refl
-quiet_passive w Op.GetVerdict h = refl
-quiet_passive w (Op.Running t) h = refl
-quiet_passive w (Op.Alive t) h = refl
-quiet_passive w (Op.Done t) h = refl
-quiet_passive w (Op.Killed t) h = refl
-quiet_passive w _ h = absurd cc
+quiet_passive w _ h = cc
 
 pub unchanged_quiet : (w : Verdict) (past : List Entry) (e : Entry) → is_quiet w e.op ≡ true → is_fault e.reply ≡ false → ChangesNothing past e
 unchanged_quiet w past e quiet plain = unchanged_passive past e (quiet_passive w e.op quiet) plain

@@ -1,13 +1,9 @@
 -- When a state is closed, and when all are.
-use Rattle.std.proofs.Common.{ℕ, ◌≡◌, ◌+◌, ◌<◌, ◌≤◌, ◌⊎◌, inl, inr, true, false, Some, List, [], length, reverse, slice_get, get_or, refl, ap, sym, subst, ◌∙◌, arith, append-nil}
-use Rattle.std.proofs.lemmas.Option.{slice_get_within, slice_get-get_or}
+use Rattle.std.proofs.{Common.{ℕ, ◌≡◌, ◌+◌, ◌<◌, ◌≤◌, ◌⊎◌, inl, inr, true, false, Some, List, [], length, reverse, slice_get, get_or, refl, ap, sym, subst, ◌∙◌, arith, append-nil}, lemmas.Option.{slice_get_within, slice_get-get_or}}
 use Rattle.tc_rules.specs.Prelude.{Entry, Case, past_of, is_over, is_active, Verdict, level_of}
 use Rattle.tc_step.specs.Prelude.{ScriptView}
-use Rattle.tc_course.specs.declared.witness.Witness.{Witness}
-use Rattle.tc_course.specs.Prelude.{is_found, stand, IsCourse}
-use Rattle.tc_course.proofs.Lemmas.{below_more}
-use Rattle.tc_explore.specs.Inside.{Seen.AllTold, Seen.AreClosed, Seen.IsClosedAt, Seen.IsLonger, Seen.IsRunClosed, Seen.IsSeen, Seen.IsState, Seen.StandsOn, Simulation.GoesOn, Simulation.IsClosed, Simulation.IsCovered, Simulation.IsWithin}
-use Rattle.tc_explore.proofs.{Keeping.active_stays, Keeping.main_goes, NextAim.closed_is_complete, Seeing.closed_for_longer, Seeing.covered_by, Seeing.found_longer, Seeing.get_more, Seeing.seen_longer}
+use Rattle.tc_course.{specs.{declared.witness.Witness.Witness, Prelude.{is_found, stand, IsCourse}}, proofs.Lemmas.below_more}
+use Rattle.tc_explore.{specs.Inside.{Seen.{AllTold, AreClosed, IsClosedAt, IsLonger, IsRunClosed, IsSeen, IsState, StandsOn}, Simulation.{GoesOn, IsClosed, IsCovered, IsWithin}}, proofs.{Keeping.{active_stays, main_goes}, NextAim.closed_is_complete, Seeing.{closed_for_longer, covered_by, found_longer, get_more, seen_longer}}}
 
 closed_by : {aim : Verdict} (scripts : List ScriptView) (states : List Case) (found : List Witness) (q : List Entry) → IsCourse scripts q → is_over q ≡ false → IsWithin aim q → is_active q 0 ≡ true → (stand q 0).left ≡ false →
     ((b : ℕ) → b < length scripts → IsRunClosed aim scripts states found q b) → (is_found found Verdict.Error ≡ true) ⊎ (GoesOn scripts q ⊎ (level_of aim < level_of Verdict.Error)) → IsClosed aim scripts (IsSeen states) found q

@@ -1,17 +1,9 @@
 -- Two courses of one key of a search for local verdicts are twins.
-use Rattle.std.proofs.Common.{ℕ, ◌≡◌, ◌==◌, ◌+◌, ◌<◌, ◌≤◌, ◌++◌, nat_lt, if◌then◌else◌, Bool, true, false, Option, Some, None, All, List, [], ◌∷◌, length, refl, ap, sym, subst, ◌∙◌, arith}
-use Rattle.std.proofs.lemmas.{Bool.Decides.nat_tests, Option.get_or_from_slice_get, Option.slice_get_within}
-use Rattle.std.specs.{Cmp.Lexicographic.pointwise, List.flat_map, List.list_any, List.range_with_len}
-use Rattle.std.specs.Prelude.{nat_eq}
-use Rattle.tc_rules.specs.Prelude.{Verdict, Entry, Op, Reply, Case, past_of, components, exists, started_on, local, local_if_any, is_active, is_wake, Target}
+use Rattle.std.{proofs.{Common.{ℕ, ◌≡◌, ◌==◌, ◌+◌, ◌<◌, ◌≤◌, ◌++◌, nat_lt, if◌then◌else◌, Bool, true, false, Option, Some, None, All, List, [], ◌∷◌, length, refl, ap, sym, subst, ◌∙◌, arith}, lemmas.{Bool.Decides.nat_tests, Option.{get_or_from_slice_get, slice_get_within}}}, specs.{Cmp.Lexicographic.pointwise, List.{flat_map, list_any, range_with_len}, Prelude.nat_eq}}
+use Rattle.tc_rules.{specs.{Prelude.{Verdict, Entry, Op, Reply, Case, past_of, components, exists, started_on, local, local_if_any, is_active, is_wake, Target}, declared.component_state.ComponentState.ComponentState}, proofs.Lemmas.Deciding.equal_if}
 use Rattle.tc_step.specs.Prelude.{ScriptView}
-use Rattle.tc_rules.specs.declared.component_state.ComponentState.{ComponentState}
-use Rattle.tc_rules.proofs.Lemmas.Deciding.{equal_if}
-use Rattle.tc_course.specs.Prelude.{CourseState, stand, after_other_by, IsCourse}
-use Rattle.tc_course.specs.Inside.{wake_if}
-use Rattle.tc_course.proofs.Lemmas.{course_legal, run_in_range, stand_own, wake_after_other}
-use Rattle.tc_explore.specs.{Inside.Simulation.IsAlike, Inside.Twins.HasTwinKeys, Inside.Twins.IsGoing, Inside.Twins.IsTwin, Inside.Twins.IsTwinSeen, Inside.Twins.key_of, Inside.Twins.local_code, Inside.Twins.local_key, Inside.Twins.twin_key, Inside.Twins.wake_key, Inside.Twins.wake_key_of, declared.search.Met.Met}
-use Rattle.tc_explore.proofs.{Alike.active_alike, Alike.fresh, Keys.Ends, Keys.alike_by_key, Keys.append_same, Keys.key_found, Keys.parts_same, Keys.stand_by_key, Sameness.exists_below, Sameness.same_verdict, Simulation.some_if}
+use Rattle.tc_course.{specs.{Prelude.{CourseState, stand, after_other_by, IsCourse}, Inside.wake_if}, proofs.Lemmas.{course_legal, run_in_range, stand_own, wake_after_other}}
+use Rattle.tc_explore.{specs.{Inside.{Simulation.IsAlike, Twins.{IsGoing, IsKnown, IsTwin, IsTwinSeen, key_of, local_code, local_key, twin_key, wake_key, wake_key_of}}, declared.search.Met.Met}, proofs.{Alike.{active_alike, fresh}, Keys.{Ends, alike_by_key, append_same, key_found, parts_same, stand_by_key}, Sameness.{exists_below, same_verdict}, Simulation.some_if}}
 
 -- ---- the Wake to come
 
@@ -19,29 +11,17 @@ abbrev is_none_or_wake : Option Op → Bool
 is_none_or_wake None = true
 is_none_or_wake (Some op) = is_wake op
 
-after_reply : (op : Op) (r : Reply) → is_none_or_wake (wake_if op r) ≡ true
-after_reply (Op.Wait k t) Reply.Parked = refl
-after_reply (Op.Wake k t) Reply.Parked = refl
-after_reply (Op.Create alive name) Reply.Parked = refl
-after_reply (Op.Start c run args) Reply.Parked = refl
-after_reply (Op.Stop g) Reply.Parked = refl
-after_reply (Op.Kill g) Reply.Parked = refl
-after_reply Op.StopCase Reply.Parked = refl
-after_reply (Op.Running t) Reply.Parked = refl
-after_reply (Op.Alive t) Reply.Parked = refl
-after_reply (Op.Done t) Reply.Parked = refl
-after_reply (Op.Killed t) Reply.Parked = refl
-after_reply (Op.SetVerdict v) Reply.Parked = refl
-after_reply Op.GetVerdict Reply.Parked = refl
-after_reply Op.Finish Reply.Parked = refl
-after_reply op _ = refl
+after_reply : (r : Reply) (op : Op) → is_none_or_wake (wake_if op r) ≡ true
+after_reply Reply.Parked (Op.Wait k t) = refl
+after_reply Reply.Parked _ = refl
+after_reply _ op = refl
 
 only_wakes : (past : List Entry) (b : ℕ) → is_none_or_wake (stand past b).wake ≡ true
 only_wakes [] b = refl
 only_wakes (e ∷ past) b = by_test (only_wakes past b) (e.caller.0 == b) refl
   where
     by_test : is_none_or_wake (stand past b).wake ≡ true → (t : Bool) → (e.caller.0 == b) ≡ t → is_none_or_wake (stand (e ∷ past) b).wake ≡ true
-    by_test before true k = ap (λ (s : CourseState). is_none_or_wake s.wake) (stand_own past e b (equal_if e.caller.0 b k)) ∙ after_reply e.op e.reply
+    by_test before true k = ap (λ (s : CourseState). is_none_or_wake s.wake) (stand_own past e b (equal_if e.caller.0 b k)) ∙ after_reply e.reply e.op
     by_test before false k =
         let other : stand (e ∷ past) b ≡ after_other_by (stand past b).comp e b (stand past b) = rw k refl in
         ap (λ (s : CourseState). is_none_or_wake s.wake) other
@@ -63,16 +43,11 @@ unwaken : (o : Option Op) → is_none_or_wake o ≡ true → unwake (wake_key tr
 unwaken None h = refl
 unwaken (Some (Op.Wake true (Target.One c))) h = refl
 unwaken (Some (Op.Wake false (Target.One c))) h = refl
-unwaken (Some (Op.Wake true Target.Any)) h = refl
-unwaken (Some (Op.Wake false Target.Any)) h = refl
-unwaken (Some (Op.Wake true Target.All)) h = refl
-unwaken (Some (Op.Wake false Target.All)) h = refl
+unwaken (Some (Op.Wake _ _)) h = refl
 unwaken (Some op) h = absurd cc
 
 wake_length : (a : Bool) (o : Option Op) → length (wake_key a o) ≡ 2
 wake_length true (Some (Op.Wake killed (Target.One c))) = refl
-wake_length true (Some (Op.Wake killed Target.Any)) = refl
-wake_length true (Some (Op.Wake killed Target.All)) = refl
 wake_length a o = refl
 
 -- ---- what two courses of one key have in common
@@ -163,9 +138,7 @@ module _ (scripts : List ScriptView) (p q : List Entry) (some : 1 ≤ length scr
       near b act = let on = some_if p b act in run_in_range (length scripts) p b on.0 some (course_legal scripts p cp) on.1
 
 -- what a key that is known leads to
-pub seen_by_twin_key : (scripts : List ScriptView) (met : Met) (t : Case) (k : List ℕ) → 1 ≤ length scripts → IsGoing scripts t → All (IsGoing scripts) met.states.items → HasTwinKeys scripts met → k ≡ twin_key (length scripts) (past_of t) →
-    list_any (λ x. pointwise nat_eq k x.items) met.keys.keys ≡ true → IsTwinSeen met.states.items (past_of t)
-seen_by_twin_key scripts met t k some state states keyed is known =
-    let f = key_found (λ x. x.items) (λ u. twin_key (length scripts) (past_of u)) k met.keys.keys met.states.items keyed known in
-    let there : IsGoing scripts f.1 = subst (IsGoing scripts) (get_or_from_slice_get met.states.items f.0 f.1 f.1 f.2) (states f.0 f.1 (slice_get_within met.states.items f.0 f.1 f.2)) in
-    (f.0, f.1, f.2, twin_by_key scripts (past_of f.1) (past_of t) some there.on.course state.on.course (sym f.3 ∙ is))
+pub seen_by_twin_key : (scripts : List ScriptView) (states : List Case) (t : Case) → 1 ≤ length scripts → IsGoing scripts t → All (IsGoing scripts) states → IsKnown (twin_key (length scripts)) states (past_of t) → IsTwinSeen states (past_of t)
+seen_by_twin_key scripts states t some state each f =
+    let there : IsGoing scripts f.1 = subst (IsGoing scripts) (get_or_from_slice_get states f.0 f.1 f.1 f.2) (each f.0 f.1 (slice_get_within states f.0 f.1 f.2)) in
+    (f.0, f.1, f.2, twin_by_key scripts (past_of f.1) (past_of t) some there.on.course state.on.course (sym f.3))

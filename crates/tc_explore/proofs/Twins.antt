@@ -1,24 +1,11 @@
 -- Courses of which the same is known, local verdicts and waits included, are so after the next call of either.
-use Rattle.std.proofs.Common.{ℕ, ◌≡◌, ◌==◌, ◌≤◌, ◌⊎◌, inl, inr, not, if◌then◌else◌, Bool, true, false, Option, Some, None, List, [], ◌∷◌, length, refl, ap, sym, subst, ◌∙◌, arith}
-use Rattle.std.specs.List.{list_all}
-use Rattle.tc_rules.specs.Prelude.{Run, Verdict, Comp, Entry, Op, Phase, Fault, Reply, comps, comp_of, created, started_on, first_some, add_new, ends_case, ends_pass, is_over, phase, local_if_any, overall, gives, awaited, parks, waiting, waits_in_vain, is_still, is_stuck, fault, answer, plain_answer, wake_reply, local_reply, is_active, is_run_of, IsLegal}
+use Rattle.std.{proofs.Common.{ℕ, ◌≡◌, ◌==◌, ◌≤◌, ◌⊎◌, inl, inr, not, if◌then◌else◌, Bool, true, false, Option, Some, None, List, [], ◌∷◌, length, refl, ap, sym, subst, ◌∙◌, arith}, specs.List.list_all}
+use Rattle.tc_rules.{specs.{Prelude.{Run, Verdict, Comp, Entry, Op, Phase, Fault, Reply, comps, comp_of, created, started_on, first_some, add_new, ends_case, ends_pass, is_over, phase, local_if_any, overall, gives, awaited, parks, waiting, waits_in_vain, is_still, is_stuck, fault, answer, plain_answer, wake_reply, local_reply, is_active, is_run_of, IsLegal}, declared.awaited.Awaited.Awaited}, proofs.Lemmas.{Deciding.{and_left, equal_if, self_equal}, Going.{halted_by_entry, last_on_it}}}
 use Rattle.tc_step.specs.Prelude.{ScriptView}
-use Rattle.tc_rules.specs.declared.awaited.Awaited.{Awaited}
-use Rattle.tc_rules.proofs.Lemmas.{Deciding.and_left, Deciding.equal_if, Deciding.self_equal, Going.halted_by_entry, Going.last_on_it}
-use Rattle.tc_course.specs.Prelude.{CourseState, stand, next, after_own, after_other_by, turn, IsTurn, IsCourse}
-use Rattle.tc_course.specs.Inside.{ends, wake_if}
-use Rattle.tc_course.proofs.Lemmas.{course_legal, stand_own, stand_other, stand_comp, stand_unstarted, wake_after_other}
-use Rattle.tc_explore.specs.Inside.{Simulation.IsAlike, Simulation.is_quiet, Twins.IsTwin}
-use Rattle.tc_explore.proofs.{Alike.active_alike, Alike.alike_sym, Alike.alike_unchanged, Alike.components_same, Alike.exists_same, Alike.fault_alike, Alike.holds_alike, Alike.local_next, Alike.phase_next, Closing.answer_fault, Closing.answer_inactive, Closing.answer_plain, LastCalls.local_kept, LastCalls.turn_by, Parking.active_if, Parking.alike_then, Parking.phase_running, Simulation.some_if, Simulation.unchanged_ended, Simulation.unchanged_quiet}
+use Rattle.tc_course.{specs.{Prelude.{CourseState, stand, next, after_own, after_other_by, turn, IsTurn, IsCourse}, Inside.{ends, wake_if}}, proofs.Lemmas.{course_legal, stand_own, stand_other, stand_comp, stand_unstarted, wake_after_other}}
+use Rattle.tc_explore.{specs.Inside.{Simulation.{IsAlike, is_quiet}, Twins.IsTwin}, proofs.{Alike.{active_alike, alike_sym, alike_unchanged, components_same, exists_same, fault_alike, holds_alike, local_next, phase_next}, Closing.{answer_fault, answer_inactive, answer_plain}, LastCalls.{local_kept, turn_by}, Parking.{active_if, alike_then, phase_running}, Simulation.{some_if, unchanged_ended, unchanged_quiet}}}
 
 -- ---- the relation
-
-pub twin_self : (p : List Entry) → IsTwin p p
-twin_self p = record {
-  alike = record { comps_same = refl; phase_same = λ c. refl; kind_same = λ c. refl; comp_same = λ b. refl };
-  locals = λ c. refl;
-  stands = λ b act. refl;
-}
 
 pub twin_then : (p q r : List Entry) → IsTwin p q → IsTwin q r → IsTwin p r
 twin_then p q r s t = record {
@@ -37,22 +24,10 @@ abbrev awaited_by : Option Op → Option Awaited
 awaited_by None = None
 awaited_by (Some op) = awaited op
 
-parks_by : (op : Op) (r : Reply) → parks op r ≡ awaited_by (wake_if op r)
-parks_by (Op.Wait k t) Reply.Parked = refl
-parks_by (Op.Wake k t) Reply.Parked = refl
-parks_by (Op.Create alive name) Reply.Parked = refl
-parks_by (Op.Start c run args) Reply.Parked = refl
-parks_by (Op.Stop g) Reply.Parked = refl
-parks_by (Op.Kill g) Reply.Parked = refl
-parks_by Op.StopCase Reply.Parked = refl
-parks_by (Op.Running t) Reply.Parked = refl
-parks_by (Op.Alive t) Reply.Parked = refl
-parks_by (Op.Done t) Reply.Parked = refl
-parks_by (Op.Killed t) Reply.Parked = refl
-parks_by (Op.SetVerdict v) Reply.Parked = refl
-parks_by Op.GetVerdict Reply.Parked = refl
-parks_by Op.Finish Reply.Parked = refl
-parks_by op _ = refl
+parks_by : (r : Reply) (op : Op) → parks op r ≡ awaited_by (wake_if op r)
+parks_by Reply.Parked (Op.Wait k t) = refl
+parks_by Reply.Parked _ = refl
+parks_by _ op = refl
 
 -- what a run waits for is the Wake to come
 waiting_is : (past : List Entry) (b : ℕ) → waiting past b ≡ awaited_by (stand past b).wake
@@ -60,7 +35,7 @@ waiting_is [] b = refl
 waiting_is (e ∷ past) b = by_test (waiting_is past b) (e.caller.0 == b) refl
   where
     by_test : waiting past b ≡ awaited_by (stand past b).wake → (t : Bool) → (e.caller.0 == b) ≡ t → (if t then parks e.op e.reply else waiting past b) ≡ awaited_by (stand (e ∷ past) b).wake
-    by_test before true k = parks_by e.op e.reply ∙ ap (λ (s : CourseState). awaited_by s.wake) (sym (stand_own past e b (equal_if e.caller.0 b k)))
+    by_test before true k = parks_by e.reply e.op ∙ ap (λ (s : CourseState). awaited_by s.wake) (sym (stand_own past e b (equal_if e.caller.0 b k)))
     by_test before false k =
         let other : stand (e ∷ past) b ≡ after_other_by (stand past b).comp e b (stand past b) = rw k refl in
         before ∙ ap awaited_by (sym (ap (λ (s : CourseState). s.wake) other ∙ wake_after_other (stand past b).comp (started_on e b) e b (stand past b) refl))
@@ -77,9 +52,7 @@ module _ (scripts : List ScriptView) (q p : List Entry) (some : 1 ≤ length scr
   still_twin c (Phase.Running r) k =
       let on = last_on_it (length scripts) q c r (omega arith) (course_legal scripts q cq) (phase_running q c r k) in
       vain_twin r.0 (active_if q r.0 (record { 0 = c }) on.0 (ap (is_run_of r.0) k ∙ self_equal r.0))
-  still_twin c Phase.Inactive k = refl
-  still_twin c Phase.Stopped k = refl
-  still_twin c Phase.Killed k = refl
+  still_twin c _ k = refl
 
   all_same_at : (f g : ℕ → Bool) (xs : List ℕ) → ((x : ℕ) → f x ≡ g x) → list_all f xs ≡ list_all g xs
   all_same_at f g [] h = refl
@@ -118,19 +91,14 @@ module _ (scripts : List ScriptView) (q p : List Entry) (some : 1 ≤ length scr
 
   plain_twin : (b : ℕ) (op : Op) → AreReplies op (plain_answer q b op) (plain_answer p b op)
   plain_twin b (Op.Create alive name) = inl (rw (components_same t.alike) refl)
-  plain_twin b (Op.Start c run args) = inl refl
-  plain_twin b (Op.Stop g) = inl refl
-  plain_twin b (Op.Kill g) = inl refl
-  plain_twin b Op.StopCase = inl refl
   plain_twin b (Op.Running x) = inr (refl, _, _, refl, refl)
   plain_twin b (Op.Alive x) = inr (refl, _, _, refl, refl)
   plain_twin b (Op.Done x) = inr (refl, _, _, refl, refl)
   plain_twin b (Op.Killed x) = inr (refl, _, _, refl, refl)
   plain_twin b (Op.Wait k x) = inl (rw (holds_alike t.alike (record { killed = k; target = x })) refl)
   plain_twin b (Op.Wake k x) = inl (wake_twin b (record { killed = k; target = x }))
-  plain_twin b (Op.SetVerdict v) = inl refl
   plain_twin b Op.GetVerdict = inl (local_reply_twin b)
-  plain_twin b Op.Finish = inl refl
+  plain_twin b _ = inl refl
 
   reply_twin : (b : ℕ) (op : Op) → is_active q b ≡ true → AreReplies op (answer (length scripts) q b op) (answer (length scripts) p b op)
   reply_twin b op act = by_fault (fault (length scripts) q b op) refl
@@ -198,10 +166,7 @@ twin_ended scripts q p e cp off t = record {
 
 question_quiet : (w : Verdict) (op : Op) → is_question op ≡ true → is_quiet w op ≡ true
 question_quiet w (Op.Running t) h = refl
-question_quiet w (Op.Alive t) h = refl
-question_quiet w (Op.Done t) h = refl
-question_quiet w (Op.Killed t) h = refl
-question_quiet w _ h = absurd cc
+question_quiet w _ h = cc
 
 gives_answer : (op : Op) (x : Bool) → gives op (Reply.Answer x) ≡ []
 gives_answer op x = refl
@@ -213,25 +178,15 @@ entry_of caller op reply = record { caller = caller; op = op; reply = reply }
 asked_ends : (caller : Run) (op : Op) (x y : Bool) (o : Option Comp) → is_question op ≡ true → ends o (entry_of caller op (Reply.Answer x)) ≡ ends o (entry_of caller op (Reply.Answer y))
 unfolding ends_pass
 asked_ends caller op x y None h = refl
-asked_ends caller (Op.Running t) x y (Some own) h = refl
-asked_ends caller (Op.Alive t) x y (Some own) h = refl
-asked_ends caller (Op.Done t) x y (Some own) h = refl
-asked_ends caller (Op.Killed t) x y (Some own) h = refl
-asked_ends caller _ x y (Some own) h = absurd cc
+asked_ends caller op x y (Some own) h = refl
 
 asked_own : (caller : Run) (op : Op) (x y : Bool) (s : CourseState) → is_question op ≡ true → after_own (entry_of caller op (Reply.Answer x)) s ≡ after_own (entry_of caller op (Reply.Answer y)) s
 asked_own caller (Op.Running t) x y s h = rw (asked_ends caller (Op.Running t) x y s.comp h) refl
-asked_own caller (Op.Alive t) x y s h = rw (asked_ends caller (Op.Alive t) x y s.comp h) refl
-asked_own caller (Op.Done t) x y s h = rw (asked_ends caller (Op.Done t) x y s.comp h) refl
-asked_own caller (Op.Killed t) x y s h = rw (asked_ends caller (Op.Killed t) x y s.comp h) refl
-asked_own caller _ x y s h = absurd cc
+asked_own caller op x y s h = rw (asked_ends caller op x y s.comp h) refl
 
 asked_no_case : (caller : Run) (op : Op) (x : Bool) → is_question op ≡ true → ends_case (entry_of caller op (Reply.Answer x)) ≡ false
 asked_no_case caller (Op.Running t) x h = refl
-asked_no_case caller (Op.Alive t) x h = refl
-asked_no_case caller (Op.Done t) x h = refl
-asked_no_case caller (Op.Killed t) x h = refl
-asked_no_case caller _ x h = absurd cc
+asked_no_case caller _ x h = cc
 
 asked : (scripts : List ScriptView) (q p : List Entry) (caller : Run) (op : Op) (x y : Bool) → IsCourse scripts (entry_of caller op (Reply.Answer x) ∷ q) → IsCourse scripts (entry_of caller op (Reply.Answer y) ∷ p) → is_question op ≡ true →
     IsTwin q p → IsTwin (entry_of caller op (Reply.Answer x) ∷ q) (entry_of caller op (Reply.Answer y) ∷ p)

@@ -1,10 +1,8 @@
 -- What is found of a test case, the overall and local verdicts of its complete courses.
-use Rattle.std.specs.Prelude.{ℕ, ◌≡◌, ◌<◌, ◌≤◌, List, length, reverse, slice_index_or, All, Bool, true, Some}
-use Rattle.std.specs.List.{AllPairs}
+use Rattle.std.specs.{Prelude.{ℕ, ◌≡◌, ◌<◌, ◌≤◌, List, length, reverse, slice_index_or, All, Bool, true, Some}, List.AllPairs}
 use Rattle.tc_rules.specs.Prelude.{level_of, Entry, Verdict, local_if_any}
 use Rattle.tc_step.specs.Prelude.{ScriptView}
-use Rattle.tc_course.specs.declared.witness.Witness.{Witness}
-use Rattle.tc_course.specs.Prelude.{carried_on, IsCourse, IsComplete, is_local}
+use Rattle.tc_course.specs.{declared.witness.Witness.Witness, Prelude.{carried_on, IsCourse, IsComplete, is_local}}
 
 -- the verdict of each is better than those after it
 abbrev pub AreFromBest : List Witness → Type 0

@@ -8,16 +8,11 @@ abbrev pub room_of : List ScriptView → ℕ
 room_of [] = 1
 room_of (script ∷ scripts) = room_of scripts + length script.steps
 
--- what a state counts for by the limit of a search: one, and one more for each 2,000 that its behaviours times its room
--- have. Each move copies a course, and a longer one of more behaviours takes longer.
-abbrev pub weight_of : List ScriptView → ℕ
-weight_of scripts = length scripts * room_of scripts / 2000 + 1
-
 -- How many bytes a state keeps, at most. Of each call it keeps two, as a behaviour carries out its steps and its end. Its key
--- has up to 64 for each behaviour, with four arguments, and 24 for each component, which some step creates, and room for as
--- many more. And there are the places in two lists and a table.
+-- has up to 64 for each behaviour, with four arguments, and 24 for each component, which some step creates. And there are the
+-- places in two lists and a table.
 abbrev pub state_bytes : List ScriptView → ℕ
-state_bytes scripts = 256 + 130 * length scripts + 50 * room_of scripts
+state_bytes scripts = 256 + 66 * length scripts + 26 * room_of scripts
 
 -- how many states have room in 512 MiB, which a machine of 1 GiB can give
 abbrev pub most_kept : List ScriptView → ℕ
@@ -25,11 +20,11 @@ most_kept scripts = 536870912 / state_bytes scripts
 
 -- how many states a search looks at, at most
 abbrev pub most_states : List ScriptView → ℕ → ℕ
-most_states scripts limit = min (limit / weight_of scripts) (most_kept scripts)
+most_states scripts limit = min limit (most_kept scripts)
 
 -- the limit that it meets then
 abbrev pub limit_met : List ScriptView → ℕ → Limit
-limit_met scripts limit = if nat_lt (most_kept scripts) (limit / weight_of scripts) then Limit.Memory else Limit.States
+limit_met scripts limit = if nat_lt (most_kept scripts) limit then Limit.Memory else Limit.States
 
 -- a search that was given this limit on its states has looked at as many as it may, and met this limit
 pub record IsAtLimit (scripts : List ScriptView) (given states : ℕ) (met : Limit) : Type 0 where

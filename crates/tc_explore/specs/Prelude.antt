@@ -1,3 +1,2 @@
 -- What other crates cite of these definitions.
-pub use Rattle.tc_explore.specs.Found.{AreAllMet, AreFromBest, AreReached, HasCourses, AllLocalsFound, AreLocals}
-pub use Rattle.tc_explore.specs.Limits.{IsAtLimit, most_states}
+pub use Rattle.tc_explore.specs.{Found.{AreAllMet, AreFromBest, AreReached, HasCourses, AllLocalsFound, AreLocals}, Limits.{IsAtLimit, most_states}}

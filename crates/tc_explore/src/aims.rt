@@ -40,7 +40,7 @@ fn next_aim(found: &[Witness], aim: Verdict) -> Option<Verdict>
 
 // Looks for all verdicts, then for those up to the one that is next better than the worst that was found, and so on. Each
 // search keeps that many states at most, and the most that one kept are returned. If the last one comes to its end, the
-// verdict of each complete course is found.
+// verdict of each complete course is found. At the limit some schedules are played to their ends.
 #[tactic(auto, using(crate::proofs::NextAim::aim_rules, crate::proofs::Kept::met_none))]
 fn search_by_aims(
     alloc: Global,
@@ -51,7 +51,8 @@ fn search_by_aims(
     requires some { 1 ≤ length scripts.now }
     requires few { length scripts.now ≤ BEHAVIOURS }
     requires found { IsNoted scripts.now found.old }
-    ensures { IfOk result (IsSearched scripts.now limit found.new) }
+    ensures searched { IfOk result (IsSearched scripts.now limit found.new) }
+    ensures told { IfOk result (λ e. e.is_whole ≡ false → 1 ≤ length found.new.witnesses.items) }
 {
     let mut aim = Verdict::Error;
     let mut states = 0;
@@ -59,6 +60,7 @@ fn search_by_aims(
         let extent = search_all(aim, alloc, scripts, limit, found)?;
         states = states.max(extent.states);
         if !extent.is_whole {
+            note_straight(alloc, scripts, found)?;
             return Ok(Extent {
                 states,
                 is_whole: false,
@@ -76,27 +78,6 @@ fn search_by_aims(
     }
 }
 
-// Looks for all verdicts by such searches, and at their limit for those of some schedules that are played to their ends.
-fn search_or_play(
-    alloc: Global,
-    scripts: &[Script],
-    limit: usize,
-    found: &mut Findings,
-) -> Result<Extent, NoMemory>
-    requires some { 1 ≤ length scripts.now }
-    requires few { length scripts.now ≤ BEHAVIOURS }
-    requires found { IsNoted scripts.now found.old }
-    ensures searched { IfOk result (IsSearched scripts.now limit found.new) }
-    ensures told { IfOk result (λ e. e.is_whole ≡ false → 1 ≤ length found.new.witnesses.items) }
-{
-    let extent = search_by_aims(alloc, scripts, limit, found)?;
-    if extent.is_whole {
-        return Ok(extent);
-    }
-    note_straight(alloc, scripts, found)?;
-    Ok(extent)
-}
-
 /// Looks for the verdicts of all complete courses by searches that keep that many states at most each, and returns the most
 /// that one kept. At their limit one verdict at least is found. The witnesses are in the order of their verdicts.
 pub(crate) fn search_verdicts(
@@ -112,7 +93,7 @@ pub(crate) fn search_verdicts(
     ensures ordered { OnOk result (AreFromBest found.new.witnesses.items) }
     ensures told { IfOk result (λ e. e.is_whole ≡ false → 1 ≤ length found.new.witnesses.items) }
 {
-    let extent = search_or_play(alloc, scripts, limit, found)?;
+    let extent = search_by_aims(alloc, scripts, limit, found)?;
     order(&mut found.witnesses);
     Ok(extent)
 }

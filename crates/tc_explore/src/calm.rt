@@ -167,39 +167,8 @@ struct Advance {
     went_on: bool,
 }
 
-// The course with the next call of a run, if nobody can see that it was made.
-#[tactic(auto, using(crate::proofs::Searching::searching_rules, crate::proofs::Keeping::call_rules, tc_course::proofs::Lemmas::turn_rules))]
-fn with_silent_call(
-    aim: Verdict,
-    course: Course,
-    scripts: &[Script],
-    run: Run,
-) -> Result<Advance, NoMemory>
-    requires within { run.0 < length scripts.now }
-    requires opened { IsOpen scripts.now course }
-    requires verdict { IsWithin aim (past_of course) }
-    ensures verdict { IfOk result (λ a. IsWithin aim (past_of a.course)) }
-    ensures opened { IfOk result (λ a. IsOpen scripts.now a.course) }
-    ensures stands { IfOk result (λ a. StandsOn aim scripts.now course a.course) }
-    ensures calm { IfOk result (λ a. a.went_on ≡ false → IsCalmAfter scripts.now course a.course run.0) }
-{
-    match next_call(&course, scripts, run) {
-        Some(op) if is_silent(aim, &course, scripts, run, &op) => {
-            let course = course.with(run, op)?;
-            Ok(Advance {
-                course,
-                went_on: true,
-            })
-        }
-        _ => Ok(Advance {
-            course,
-            went_on: false,
-        }),
-    }
-}
-
 // The course with the next calls of a run of which nobody can see that they were made.
-#[tactic(auto, using(crate::proofs::Searching::searching_rules, crate::proofs::Keeping::calm_rules))]
+#[tactic(auto, using(crate::proofs::Searching::searching_rules, crate::proofs::Keeping::call_rules, crate::proofs::Keeping::calm_rules, tc_course::proofs::Lemmas::turn_rules))]
 fn with_silent_calls(
     aim: Verdict,
     course: Course,
@@ -217,11 +186,13 @@ fn with_silent_calls(
     let mut course = course;
     let mut went_on = false;
     for _ in 0..STEPS + 1 {
-        let advance = with_silent_call(aim, course, scripts, run)?;
-        course = advance.course;
-        if !advance.went_on {
+        let Some(op) = next_call(&course, scripts, run) else {
+            return Ok(Advance { course, went_on });
+        };
+        if !is_silent(aim, &course, scripts, run, &op) {
             return Ok(Advance { course, went_on });
         }
+        course = course.with(run, op)?;
         went_on = true;
     }
     Ok(Advance {

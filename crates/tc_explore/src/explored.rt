@@ -18,11 +18,10 @@ use tc_step::Script;
 use tc_verdict::NoMemory;
 
 /// Looks for the overall verdicts that the courses of a test case give, each with a complete course that gives it. The
-/// search looks at that many states at most, each counted for its weight, or at as many as have room in memory. It comes
-/// to its end unless it meets a limit, and then the verdict of each complete course is found. At a limit one verdict at
-/// least is found. Each number of calls that is reached has a course too. A test case without behaviours is left
-/// undecided.
-#[tactic(auto, using(crate::proofs::Noting::legal_rules, crate::proofs::Noting::noting_rules, crate::proofs::Room::weight_rules))]
+/// search looks at that many states at most, or at as many as have room in memory. It comes to its end unless it meets a
+/// limit, and then the verdict of each complete course is found. At a limit one verdict at least is found. Each number of
+/// calls that is reached has a course too. A test case without behaviours is left undecided.
+#[tactic(auto, using(crate::proofs::Noting::legal_rules, crate::proofs::Noting::noting_rules))]
 pub fn explore(alloc: Global, scripts: &[Script], limit: usize) -> Result<Explored, NoMemory>
     requires few { length scripts.now ≤ BEHAVIOURS }
     ensures sound { IfOk result (λ e. AreWitnesses scripts.now e.found) }

@@ -32,7 +32,7 @@ fn locals_of(marks: Marks, states: usize, ending: Ending) -> Locals
 /// Looks for the local verdicts that the components of a test case have at the end of its complete courses. The states of
 /// two courses are the same only if the local verdicts are. So it looks at more of them than `explore`, which it bounds
 /// alike. A test case without behaviours is left undecided.
-#[tactic(auto, using(crate::proofs::Room::weight_rules, crate::proofs::Marking::found_rules, crate::proofs::LocalsClosed::courses_none))]
+#[tactic(auto, using(crate::proofs::Marking::found_rules, crate::proofs::LocalsClosed::courses_none))]
 pub fn explore_locals(alloc: Global, scripts: &[Script], limit: usize) -> Result<Locals, NoMemory>
     requires few { length scripts.now ≤ BEHAVIOURS }
     ensures sound { IfOk result (λ l. AreLocals scripts.now l.found) }

@@ -3,7 +3,7 @@ ghost use Rattle.std.specs.Prelude.{◌≡◌, ◌≤◌, ◌<◌, true, [], OnO
 ghost use Rattle.tc_entry.specs.declared.limits.TheConstants.{BEHAVIOURS};
 ghost use Rattle.tc_rules.specs.Prelude.{past_of, is_over};
 ghost use Rattle.tc_course.specs.Prelude.{IsComplete, IsOn};
-ghost use Rattle.tc_explore.specs.{Found.AreLocals, Inside.Twins.HasLocal, Inside.Twins.HasLocals, Inside.Twins.IsMarked, Inside.Twins.IsMore, Inside.Twins.IsPadded};
+ghost use Rattle.tc_explore.specs.{Found.AreLocals, Inside.Twins.HasLocal, Inside.Twins.HasLocals, Inside.Twins.IsMarked, Inside.Twins.IsMore};
 
 use crate::turns::step_all;
 use std::alloc::Global;
@@ -20,25 +20,15 @@ pub(crate) struct Marks {
     pub(crate) names: Vec<Option<Name>>,
 }
 
-// Adds places in which nothing is found, until there are that many.
-#[tactic(auto, using(crate::proofs::Marking::marking_rules))]
-fn pad(found: &mut Vec<bool>, size: usize) -> Result<(), NoMemory>
-    ensures padded { OnOk result (IsPadded found.old.items found.new.items) }
-    ensures size { OnOk result (size ≤ length found.new.items) }
-{
-    while found.len() < size {
-        found.push(false)?;
-    }
-    Ok(())
-}
-
-// Marks a place.
+// Marks a place, after places in which nothing is found.
 #[tactic(auto, using(crate::proofs::Marking::marking_rules))]
 fn mark(found: &mut Vec<bool>, at: usize) -> Result<(), NoMemory>
     requires { at < 100000000000 }
     ensures { OnOk result (IsMarked found.old.items found.new.items at) }
 {
-    pad(found, at + 1)?;
+    while found.len() <= at {
+        found.push(false)?;
+    }
     found[at] = true;
     Ok(())
 }

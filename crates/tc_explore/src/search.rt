@@ -1,11 +1,11 @@
 //! The search for verdicts up to one. It follows the calls of all runs, makes those at once of which nobody can see that
 //! they were made, and goes no further where the verdict is worse. If it comes to its end nothing up to that is missed.
-ghost use Rattle.std.specs.Prelude.{◌≡◌, ◌≤◌, ◌<◌, ◌&&◌, ◌∷◌, true, false, IfOk, OnOk, All, length, slice_index_or};
+ghost use Rattle.std.specs.Prelude.{◌≡◌, ◌≤◌, ◌<◌, ◌&&◌, ◌∷◌, true, false, ℕ, List, IfOk, OnOk, length, slice_index_or};
 ghost use Rattle.tc_entry.specs.declared.limits.TheConstants.{BEHAVIOURS};
-ghost use Rattle.tc_rules.specs.Prelude.{past_of, answer};
-ghost use Rattle.tc_course.specs.Prelude.{IsOn, IsNext, entry_made, carried_on, goes_on};
+ghost use Rattle.tc_rules.specs.Prelude.{Entry, past_of, answer, entry_made};
+ghost use Rattle.tc_course.specs.Prelude.{IsOn, IsNext, carried_on, goes_on};
 ghost use Rattle.tc_verdict.specs.declared.verdict.Verdict.TheVariants.{Error};
-ghost use Rattle.tc_explore.specs.{Found.AreAllMet, Inside.Seen.AllTold, Inside.Seen.AreClosed, Inside.Seen.AreHeld, Inside.Seen.AreKept, Inside.Seen.AreKeyed, Inside.Seen.AreRunsClosed, Inside.Seen.AreStill, Inside.Seen.IsCallClosed, Inside.Seen.IsFull, Inside.Seen.IsLonger, Inside.Seen.IsNoLess, Inside.Seen.IsNoted, Inside.Seen.IsOpen, Inside.Seen.IsRunClosed, Inside.Seen.IsSeen, Inside.Seen.IsState, Inside.Seen.IsStillAt, Inside.Seen.IsWith, Inside.Simulation.IsClosed};
+ghost use Rattle.tc_explore.specs.{Found.AreAllMet, Inside.{Seen.{AllTold, AreClosed, AreHeld, AreKept, AreRunsClosed, AreStill, IsCallClosed, IsFull, IsLonger, IsNoLess, IsNoted, IsOpen, IsRunClosed, IsSeen, IsState, IsStillAt, IsWith}, Simulation.IsClosed, Twins.{AreKeyed, IsKnown}}};
 ghost use Rattle.tc_explore.specs.Inside.Simulation as moves;
 
 use crate::calls::Kept;
@@ -47,37 +47,37 @@ pub(crate) fn extent_of(states: usize, is_placed: bool, is_closed: bool) -> Exte
     }
 }
 
-// Takes in the state of a course, and returns whether it is among those that are seen: it is, unless as many as the
-// limit are met. No two of them have one key.
-#[tactic(auto, using(crate::proofs::Seeing::seeing_rules, crate::proofs::Keeping::keeping_rules, crate::proofs::Kept::with_one))]
-fn place<'a>(
-    aim: Verdict,
+/// Takes in the state of a course, which has this key, and returns whether a state of that key is met: one is, unless as
+/// many as the limit are.
+#[tactic(auto, using(crate::proofs::Kept::with_one))]
+pub(crate) fn place<'a>(
     alloc: Global,
     scripts: &'a [Script],
-    course: Course,
+    course: &Course,
+    key: Vec<u64>,
     met: &mut Met<'a>,
 ) -> Result<bool, NoMemory>
     requires some { 1 ≤ length scripts.now }
     requires few { length scripts.now ≤ BEHAVIOURS }
-    requires state { IsState aim scripts.now course }
-    requires states { All (λ t. IsState aim scripts.now t) met.old.states.items }
-    requires keyed { AreKeyed scripts.now met.old }
-    ensures with_it { OnOk result (IsWith met.old.states.items course met.new.states.items) }
-    ensures keyed { OnOk result (AreKeyed scripts.now met.new) }
+    requires on { IsOn scripts.now course.now }
+    ensures with_it { OnOk result (IsWith met.old.states.items course.now met.new.states.items) }
+    ensures keyed { OnOk result ((of : List Entry → List ℕ) → key.items ≡ of (past_of course.now) → AreKeyed of met.old → AreKeyed of met.new) }
     ensures limit { met.new.limit ≡ met.old.limit }
     ensures within { length met.old.states.items ≤ met.old.limit → length met.new.states.items ≤ met.old.limit }
-    ensures seen { IfOk result (λ is_seen. is_seen ≡ true → IsSeen met.new.states.items (past_of course)) }
-    ensures full { IfOk result (λ is_seen. is_seen ≡ false → IsFull met.old) }
+    ensures known { IfOk result (λ is_known. is_known ≡ true → (of : List Entry → List ℕ) → key.items ≡ of (past_of course.now)
+        → AreKeyed of met.old → IsKnown of met.new.states.items (past_of course.now)) }
+    ensures full { IfOk result (λ is_known. is_known ≡ false → IsFull met.old) }
 {
-    let key = state_key(&course, alloc, scripts.len() as u16)?;
     if met.keys.contains(&key) {
         return Ok(true);
     }
     if met.states.len() >= met.limit {
         return Ok(false);
     }
+    let mut key = key;
+    key.shrink_to_fit();
     met.keys.insert(key)?;
-    let kept = Kept::of(alloc, scripts, &course)?;
+    let kept = Kept::of(alloc, scripts, course)?;
     met.states.push(kept)?;
     Ok(true)
 }
@@ -137,7 +137,8 @@ fn after_call<'a>(
     }
     let calm = calmed(aim, next, scripts)?;
     reach(&mut found.reached, scripts, &calm);
-    let is_seen = place(aim, alloc, scripts, calm, met)?;
+    let key = state_key(&calm, alloc, scripts.len() as u16)?;
+    let is_seen = place(alloc, scripts, &calm, key, met)?;
     Ok(is_seen)
 }
 
@@ -336,7 +337,8 @@ pub(crate) fn search_all(
     let opening = Course::opening(alloc, scripts.len() as u16)?;
     let calm = calmed(aim, opening, scripts)?;
     reach(&mut found.reached, scripts, &calm);
-    let is_placed = place(aim, alloc, scripts, calm, &mut met)?;
+    let key = state_key(&calm, alloc, scripts.len() as u16)?;
+    let is_placed = place(alloc, scripts, &calm, key, &mut met)?;
     let is_closed = expand_all(aim, alloc, scripts, &mut met, found)?;
     Ok(extent_of(met.keys.len(), is_placed, is_closed))
 }

@@ -1,92 +1,21 @@
 //! The search for local verdicts. It follows the calls of all runs, one by one.
-ghost use Rattle.std.specs.Prelude.{◌≡◌, ◌≤◌, ◌<◌, ◌∷◌, true, false, IfOk, OnOk, All, length};
+ghost use Rattle.std.specs.Prelude.{◌≡◌, ◌≤◌, ◌<◌, true, false, IfOk, OnOk, length};
 ghost use Rattle.tc_entry.specs.declared.limits.TheConstants.{BEHAVIOURS};
 ghost use Rattle.tc_rules.specs.Prelude.{past_of};
-ghost use Rattle.tc_course.specs.Prelude.{entry_made, IsNext};
-ghost use Rattle.tc_explore.specs.{Found.AllLocalsFound, Found.AreLocals, Found.HasCourses, Inside.Seen.IsFull, Inside.Seen.IsLonger, Inside.Seen.IsWith, Inside.Twins.AreGoing, Inside.Twins.AreLocalsClosed, Inside.Twins.AreLocalsRuns, Inside.Twins.HasTwinKeys, Inside.Twins.IsGoing, Inside.Twins.IsLocalsAfter, Inside.Twins.IsLocalsRun, Inside.Twins.IsMore, Inside.Twins.IsTwinSeen};
+ghost use Rattle.tc_explore.specs.{Found.AllLocalsFound, Found.AreLocals, Found.HasCourses, Inside.Seen.IsFull, Inside.Seen.IsLonger, Inside.Twins.AreGoing, Inside.Twins.AreLocalsClosed, Inside.Twins.AreLocalsRuns, Inside.Twins.IsGoing, Inside.Twins.IsLocalsRun, Inside.Twins.IsMore};
 
-use crate::calls::Kept;
 use crate::marks::Marks;
-use crate::search::{Extent, Met, extent_of, with_call};
+use crate::search::{Extent, Met, extent_of, place, with_call};
 use crate::state_keys::state_key_with_locals;
 use indexmap::IndexSet;
 use std::alloc::Global;
 use tc_course::{Course, next_call};
-use tc_entry::Op;
 use tc_step::Script;
 use tc_verdict::{NoMemory, Run};
 
-// Takes in the state of a course, and returns whether it is among those that are seen: it is, unless as many as the
-// limit are met. No two of them have one key.
-#[tactic(auto, using(crate::proofs::Seeing::seeing_rules, crate::proofs::LocalsClosed::call_rules, crate::proofs::Kept::with_one))]
-fn place<'a>(
-    alloc: Global,
-    scripts: &'a [Script],
-    course: Course,
-    met: &mut Met<'a>,
-) -> Result<bool, NoMemory>
-    requires some { 1 ≤ length scripts.now }
-    requires few { length scripts.now ≤ BEHAVIOURS }
-    requires state { IsGoing scripts.now course }
-    requires states { All (IsGoing scripts.now) met.old.states.items }
-    requires keyed { HasTwinKeys scripts.now met.old }
-    ensures with_it { OnOk result (IsWith met.old.states.items course met.new.states.items) }
-    ensures keyed { OnOk result (HasTwinKeys scripts.now met.new) }
-    ensures limit { met.new.limit ≡ met.old.limit }
-    ensures within { length met.old.states.items ≤ met.old.limit → length met.new.states.items ≤ met.old.limit }
-    ensures seen { IfOk result (λ is_seen. is_seen ≡ true → IsTwinSeen met.new.states.items (past_of course)) }
-    ensures full { IfOk result (λ is_seen. is_seen ≡ false → IsFull met.old) }
-{
-    let key = state_key_with_locals(&course, alloc, scripts.len() as u16)?;
-    if met.keys.contains(&key) {
-        return Ok(true);
-    }
-    if met.states.len() >= met.limit {
-        return Ok(false);
-    }
-    met.keys.insert(key)?;
-    let kept = Kept::of(alloc, scripts, &course)?;
-    met.states.push(kept)?;
-    Ok(true)
-}
-
-// Makes a call, and returns whether what it leads to is seen, or its local verdicts are found.
-#[tactic(auto, using(crate::proofs::Closed::closed_rules, crate::proofs::Seeing::seeing_rules, crate::proofs::LocalsClosed::call_rules))]
-fn after_call<'a>(
-    alloc: Global,
-    scripts: &'a [Script],
-    course: &Course,
-    run: Run,
-    op: Op,
-    met: &mut Met<'a>,
-    marks: &mut Marks,
-) -> Result<bool, NoMemory>
-    requires some { 1 ≤ length scripts.now }
-    requires few { length scripts.now ≤ BEHAVIOURS }
-    requires state { IsGoing scripts.now course.now }
-    requires turn { IsNext scripts.now course.now run op }
-    requires kept { AreGoing scripts.now met.old }
-    requires sound { AreLocals scripts.now marks.old.found.items }
-    ensures kept { OnOk result (AreGoing scripts.now met.new) }
-    ensures more_states { OnOk result (IsLonger met.old.states.items met.new.states.items) }
-    ensures sound { OnOk result (AreLocals scripts.now marks.new.found.items) }
-    ensures more_found { OnOk result (IsMore marks.old.found.items marks.new.found.items) }
-    ensures limit { OnOk result (met.new.limit ≡ met.old.limit) }
-    ensures closed { IfOk result (λ is_closed. is_closed ≡ true
-        → IsLocalsAfter met.new.states.items marks.new.found.items (entry_made course.now.behaviours (past_of course.now) run op ∷ past_of course.now)) }
-    ensures full { IfOk result (λ is_closed. is_closed ≡ false → IsFull met.old) }
-{
-    let next = with_call(alloc, scripts, course, run, op)?;
-    if next.is_over() {
-        marks.note(scripts, next)?;
-        return Ok(true);
-    }
-    let is_seen = place(alloc, scripts, next, met)?;
-    Ok(is_seen)
-}
-
-// Makes the next call of a run, if it continues.
-#[tactic(auto, using(crate::proofs::Seeing::seeing_rules, crate::proofs::LocalsClosed::run_rules))]
+// Makes the next call of a run, if it continues, and returns whether what it leads to is seen, or its local verdicts are
+// found.
+#[tactic(auto, using(crate::proofs::Closed::closed_rules, crate::proofs::Seeing::seeing_rules, crate::proofs::LocalsClosed::call_rules, crate::proofs::LocalsClosed::run_rules))]
 fn try_run<'a>(
     alloc: Global,
     scripts: &'a [Script],
@@ -115,8 +44,14 @@ fn try_run<'a>(
     let Some(op) = next_call(course, scripts, run) else {
         return Ok(true);
     };
-    let is_closed = after_call(alloc, scripts, course, run, op, met, marks)?;
-    Ok(is_closed)
+    let next = with_call(alloc, scripts, course, run, op)?;
+    if next.is_over() {
+        marks.note(scripts, next)?;
+        return Ok(true);
+    }
+    let key = state_key_with_locals(&next, alloc, scripts.len() as u16)?;
+    let is_seen = place(alloc, scripts, &next, key, met)?;
+    Ok(is_seen)
 }
 
 // Makes the next call of each run.
@@ -204,7 +139,8 @@ pub(crate) fn search_locals(
         limit,
     };
     let opening = Course::opening(alloc, scripts.len() as u16)?;
-    let is_placed = place(alloc, scripts, opening, &mut met)?;
+    let key = state_key_with_locals(&opening, alloc, scripts.len() as u16)?;
+    let is_placed = place(alloc, scripts, &opening, key, &mut met)?;
     let is_closed = expand_all(alloc, scripts, &mut met, marks)?;
     Ok(extent_of(met.keys.len(), is_placed, is_closed))
 }

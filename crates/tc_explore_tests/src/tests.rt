@@ -1,6 +1,5 @@
 //! Test cases with one verdict and with several.
 mod checks;
-mod details;
 mod following;
 mod locals;
 mod play;
@@ -13,11 +12,10 @@ use play::{All, all_schedules};
 use std::alloc::Global;
 use std::process::Abort;
 use std::test::Fail;
-use tc_entry::{Entry, Name, Op, Reply};
+use tc_entry::Entry;
 use tc_explore::{Ending, Explored, Limit, Locals, Witness, explore, explore_locals};
-use tc_explored::{append_line, append_locals, append_witnesses, explored_status};
 use tc_rules::{CheckFault, replay_check};
-use tc_step::{GroupPlace, Place, Places, Script, Status, Step, TargetPlace};
+use tc_step::{GroupPlace, Place, Places, Script, Step, TargetPlace};
 use tc_verdict::{NoMemory, Run, UserVerdict, Verdict};
 
 const P: Place = Place::Bound(0);
@@ -189,36 +187,13 @@ fn race<R: Abort>(rt: &R, alloc: Global) -> Result<Vec<Script>, Fail> {
     two(rt, alloc, Step::GetVerdict, UserVerdict::Fail)
 }
 
-// The history of the only verdict: so these runs call, and the first ends its wait and finishes.
-fn is_waited_for<R: Abort>(rt: &R, history: &[Entry]) {
-    let callers = [0, 0, 1, 1, 1, 0, 0];
-    assert_eq!(rt; history.len(), callers.len());
-    for (entry, caller) in history.iter().zip(&callers) {
-        is(rt, "the caller", entry.caller, Run(*caller));
-    }
-    let is_matched = history[5].reply.same(&Reply::Matched);
-    holds(rt, "the wait is over", is_matched);
-    let is_finish = history[6].op.same(&Op::Finish);
-    holds(rt, "the last call is a finish", is_finish);
-}
-
-// The search has come to its end, and found one witness, of the verdict pass.
-fn has_one_witness<R: Abort>(rt: &R, explored: &Explored) {
-    is(rt, "the ending", explored.ending, Ending::Complete);
-    holds(rt, "a state", explored.states >= 1);
-    let found = explored.found.as_slice();
-    assert_eq!(rt; found.len(), 1);
-    is(rt, "the verdict", found[0].verdict, Verdict::Pass);
-    is_waited_for(rt, found[0].history.as_slice());
-}
-
 #[test]
-fn who_waits_has_one_verdict(rt: HostRuntime) -> Result<(), Fail> {
-    let alloc = rt.alloc();
+fn all_steps_are_reached(rt: HostRuntime) -> Result<(), Fail> {
     let last = wait(TargetPlace::One(P));
-    let scripts = two(&rt, alloc, last, UserVerdict::Pass)?;
-    let explored = search(&rt, alloc, scripts.as_slice(), MANY)?;
-    has_one_witness(&rt, &explored);
+    let scripts = two(&rt, rt.alloc(), last, UserVerdict::Pass)?;
+    let explored = search(&rt, rt.alloc(), scripts.as_slice(), MANY)?;
+    let reached = explored.reached.as_slice();
+    is(&rt, "how far runs are reached", reached, [4, 3].as_slice());
     Ok(())
 }
 
@@ -373,29 +348,15 @@ fn a_search_ends_at_its_limit(rt: HostRuntime) -> Result<(), Fail> {
     end_within(&rt, rt.alloc(), scripts.as_slice(), rows.as_slice())
 }
 
-// Adds a behaviour of a thousand steps.
-fn add_long<R: Abort>(rt: &R, alloc: Global, scripts: &mut Vec<Script>) -> Result<(), Fail> {
-    let mut steps = Vec::new(alloc);
-    for _ in 0..1_000 {
-        steps.push(Step::GetVerdict)?;
-    }
-    Ok(scripts.push(script(rt, steps))?)
-}
-
-// A state of a test case with many behaviours and steps counts for more: here each for 25.
+// Without a state both verdicts are those of schedules that are played to their ends.
 #[test]
-fn a_large_test_case_has_fewer_states(rt: HostRuntime) -> Result<(), Fail> {
-    let mut scripts = race(&rt, rt.alloc())?;
-    for _ in 0..6 {
-        add_long(&rt, rt.alloc(), &mut scripts)?;
-    }
-    let rows = [
-        (24, Ending::Undecided(Limit::States), Some(0)),
-        (25, Ending::Undecided(Limit::States), Some(1)),
-        (74, Ending::Undecided(Limit::States), Some(2)),
-        (75, Ending::Complete, Some(3)),
-    ];
-    end_within(&rt, rt.alloc(), scripts.as_slice(), rows.as_slice())
+fn verdicts_are_found_without_a_state(rt: HostRuntime) -> Result<(), Fail> {
+    let scripts = race(&rt, rt.alloc())?;
+    let explored = search(&rt, rt.alloc(), scripts.as_slice(), 0)?;
+    let found = witnessed(&rt, rt.alloc(), 2, explored.found.as_slice())?;
+    let wanted = [Verdict::None, Verdict::Fail];
+    is(&rt, "the verdicts", found.as_slice(), wanted.as_slice());
+    Ok(())
 }
 
 // A start of the second behaviour on the second component, with the first as its argument.
@@ -589,92 +550,4 @@ fn states_where_the_main_behaviour_sets_verdicts(rt: HostRuntime) -> Result<(), 
     let states = completed(&rt, alloc, scripts.as_slice())?;
     holds(&rt, "some states", states > 3);
     Ok(())
-}
-
-// Compares the line that is printed for a test case t, and its status.
-fn is_told<R: Abort>(
-    rt: &R,
-    alloc: Global,
-    explored: &Explored,
-    (line, status): (&str, u8),
-) -> Result<(), Fail> {
-    let name = Name::read("t").ok_or("a name")?;
-    let mut out = Vec::new(alloc);
-    append_line(alloc, &mut out, &name, explored)?;
-    is(rt, "the line", out.as_slice(), line.as_bytes());
-    is(rt, "the status", explored_status(explored), status);
-    Ok(())
-}
-
-// Compares what is printed about a search within this limit.
-fn tells<R: Abort>(
-    rt: &R,
-    alloc: Global,
-    scripts: &[Script],
-    limit: usize,
-    told: (&str, u8),
-) -> Result<(), Fail> {
-    let explored = search(rt, alloc, scripts, limit)?;
-    is_told(rt, alloc, &explored, told)
-}
-
-// Compares what is printed about the race within each limit.
-fn race_is_told<R: Abort>(rt: &R, alloc: Global) -> Result<(), Fail> {
-    let race = race(rt, alloc)?;
-    let rows = [
-        (MANY, "t none fail complete\n", 1),
-        (
-            2,
-            "t none fail undecided after 2 states: limit of states\n",
-            3,
-        ),
-        (
-            0,
-            "t none fail undecided after 0 states: limit of states\n",
-            3,
-        ),
-    ];
-    for (limit, line, status) in rows {
-        tells(rt, alloc, race.as_slice(), limit, (line, status))?;
-    }
-    Ok(())
-}
-
-// The worst verdict is found first: the worker sets fail, and the search comes to its limit before it makes a component. At the
-// limit two schedules are played to their ends: in the first the main behaviour ends at once.
-fn worst_is_told<R: Abort>(rt: &R, alloc: Global) -> Result<(), Fail> {
-    let mut scripts = Vec::new(alloc);
-    add_leading(rt, alloc, &mut scripts, Step::GetVerdict)?;
-    let steps = vec![in alloc; Step::SetVerdict(UserVerdict::Fail), create(false)]?;
-    scripts.push(script(rt, steps))?;
-    let told = ("t none fail undecided after 3 states: limit of states\n", 3);
-    tells(rt, alloc, scripts.as_slice(), 3, told)
-}
-
-// Compares the histories of the witnesses of a test case t of one behaviour.
-fn has_histories<R: Abort>(
-    rt: &R,
-    alloc: Global,
-    explored: &Explored,
-    wanted: &str,
-) -> Result<(), Fail> {
-    let name = Name::read("t").ok_or("a name")?;
-    let mut out = Vec::new(alloc);
-    append_witnesses(&mut out, &name, 1, explored)?;
-    is(rt, "the histories", out.as_slice(), wanted.as_bytes());
-    Ok(())
-}
-
-#[test]
-fn lines_and_statuses(rt: HostRuntime) -> Result<(), Fail> {
-    let alloc = rt.alloc();
-    race_is_told(&rt, alloc)?;
-    worst_is_told(&rt, alloc)?;
-    let mut alone = Vec::new(alloc);
-    add_setting(&rt, alloc, &mut alone, UserVerdict::Pass)?;
-    let explored = search(&rt, alloc, alone.as_slice(), MANY)?;
-    is_told(&rt, alloc, &explored, ("t pass complete\n", 0))?;
-    let wanted =
-        "history 2 t 1\n0 getverdict -> none\n0 setverdict pass -> ok\n0 finish -> ok\nend pass\n";
-    has_histories(&rt, alloc, &explored, wanted)
 }

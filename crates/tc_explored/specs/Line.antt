@@ -1,10 +1,9 @@
 -- What is printed about a test case that was explored.
-use Rattle.std.specs.Prelude.{ℕ, ◌==◌, if◌then◌else◌, nat_lt, Bool, Option, List, [], ◌∷◌, ◌++◌, codes, filter, length, ◌+◌, ◌/◌, None, drop, slice_index_or}
-use Rattle.std.specs.{Fmt.decimal, List.flat_map, List.range_with_len, Option.option_map_or}
+use Rattle.std.specs.{Prelude.{ℕ, ◌==◌, if◌then◌else◌, nat_lt, Bool, List, [], ◌∷◌, ◌++◌, codes, filter, length, ◌+◌, ◌/◌, None, drop, slice_index_or}, Fmt.decimal, List.{flat_map, range_with_len}}
 use Rattle.tc_rules.specs.Prelude.{Verdict, name_of}
-use Rattle.tc_blocks.specs.Prelude.{history_text}
-use Rattle.tc_course.specs.Prelude.{is_found, is_local}
-use Rattle.tc_course.specs.declared.{found.Ending.Ending, found.Explored.Explored, found.Limit.Limit, found.Locals.Locals, witness.Witness.Witness}
+use Rattle.tc_blocks.specs.declared.header.Header.{Header}
+use Rattle.tc_report.specs.Prelude.{component_text, named_block}
+use Rattle.tc_course.specs.{Prelude.{is_found, is_local}, declared.{found.{Ending.Ending, Explored.Explored, Limit.Limit, Locals.Locals}, witness.Witness.Witness}}
 use Rattle.tc_text.specs.Prelude.{shown_line}
 
 -- the verdicts of which this holds, from the best to the worst
@@ -26,28 +25,20 @@ found_status found =
 abbrev pub explored_status : Explored → ℕ
 explored_status e = if_complete e.ending (found_status e.found) 3
 
--- the limit that a search met
-abbrev pub limit_words : Limit → List ℕ
-limit_words Limit.States = codes " states: limit of states"
-limit_words Limit.Memory = codes " states: limit of memory"
-
 -- how the search ended, and, if something may be missed, after how many states and at which limit
 abbrev pub ending_words : Ending → ℕ → List ℕ
 ending_words Ending.Complete states = codes " complete"
-ending_words (Ending.Undecided limit) states = codes " undecided after " ++ (decimal states ++ limit_words limit)
+ending_words (Ending.Undecided Limit.States) states = codes " undecided after " ++ (decimal states ++ codes " states: limit of states")
+ending_words (Ending.Undecided Limit.Memory) states = codes " undecided after " ++ (decimal states ++ codes " states: limit of memory")
 
 -- the line of a test case of this name: the verdicts that were found, and how the search ended
 abbrev pub explored_line : List ℕ → Explored → List ℕ
 explored_line name e =
     name ++ (flat_map (λ v. codes " " ++ name_of v) (verdicts_where (is_found e.found)) ++ (ending_words e.ending e.states ++ (10 ∷ [])))
 
--- a component after a space: its number and its name, if it has one; the main one as mtc
-abbrev pub component_text : ℕ → Option (List ℕ) → List ℕ
-component_text c name = if c == 0 then codes " mtc" else 32 ∷ (decimal c ++ option_map_or (λ n. 32 ∷ n) name [])
-
--- the histories of all witnesses, in a test case of this name and of n behaviours
-abbrev pub witnesses_text : List ℕ → ℕ → Explored → List ℕ
-witnesses_text name n e = flat_map (λ w. history_text 2 name n w.history w.verdict) e.found
+-- a block with this first line for each witness, with these names of behaviours
+abbrev pub witnesses_text : Header → List (List ℕ) → Explored → List ℕ
+witnesses_text h names e = flat_map (λ w. named_block h names w.history w.verdict) e.found
 
 -- verdicts, with `or` between them
 abbrev pub or_text : List Verdict → List ℕ
@@ -58,7 +49,7 @@ unfoldable pub local_line : Locals → ℕ → List ℕ
 local_line l c =
     let verdicts = verdicts_where (is_local l.found c) in
     if nat_lt 1 (length verdicts)
-    then shown_line (codes " local" ++ (component_text c (slice_index_or l.names c None) ++ (codes ":" ++ or_text verdicts)))
+    then shown_line (codes " local " ++ (component_text c (slice_index_or l.names c None) ++ (codes ":" ++ or_text verdicts)))
     else []
 
 -- all that is printed; of a search that met its limit how many states it looked at

@@ -1,8 +1,7 @@
 -- How a step is printed: as a script spells it, except that components have their place, and behaviours their run.
-use Rattle.std.specs.Prelude.{ℕ, ◌+◌, if◌then◌else◌, List, [], ◌++◌, codes}
-use Rattle.std.specs.{Fmt.decimal, List.flat_map, Option.option_map_or}
+use Rattle.std.specs.{Prelude.{ℕ, ◌+◌, if◌then◌else◌, List, [], ◌++◌, codes}, Fmt.decimal, List.flat_map, Option.option_map_or}
 use Rattle.tc_rules.specs.Prelude.{given, name_of}
-use Rattle.tc_step.specs.declared.{place.GroupPlace.GroupPlace, place.Place.Place, place.TargetPlace.TargetPlace, step.Status.Status, step.Step.Step}
+use Rattle.tc_step.specs.declared.{place.{GroupPlace.GroupPlace, Place.Place, TargetPlace.TargetPlace}, step.{Status.Status, Step.Step}}
 
 -- a component
 abbrev pub place_text : Place ℕ → List ℕ

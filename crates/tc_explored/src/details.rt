@@ -1,79 +1,148 @@
 //! What the details say of a test case that was explored.
-ghost use Rattle.std.specs.Prelude.{◌≡◌, ◌≤◌, ◌++◌, All, OnOk, length, reverse};
+ghost use Rattle.std.specs.Prelude.{◌≡◌, ◌≤◌, ◌++◌, ◌∷◌, All, OnOk, codes, length, reverse};
 ghost use Rattle.std.specs.List.{flat_map};
 ghost use Rattle.tc_entry.specs.declared.limits.TheConstants.{BEHAVIOURS};
 ghost use Rattle.tc_course.specs.Prelude.{AreLegal};
-ghost use Rattle.tc_rules.specs.Prelude.{IsLegal};
-ghost use Rattle.tc_explored.specs.{Details.details, Details.locals, Waits.waits_text};
+ghost use Rattle.tc_report.specs.Prelude.{decided_text, waits_text};
+ghost use Rattle.tc_rules.specs.Prelude.{IsLegal, name_of as verdict_name};
+ghost use Rattle.tc_text.specs.Prelude.{shown_line};
+ghost use Rattle.tc_explored.specs.Details as spec;
 
 use crate::components::append_locals_line;
 use crate::race::append_races;
 use crate::unseen::append_unseen;
-use crate::waits::append_waits;
 use std::alloc::Global;
 use tc_course::{Ending, Explored, Witness};
+use tc_entry::Name;
+use tc_report::{
+    CaseEnd, Cause, Names, append_decision, append_waits, cause_of, names_in, namings_of,
+};
 use tc_step::Script;
-use tc_verdict::NoMemory;
+use tc_text::{append_shown, append_text};
+use tc_verdict::{NoMemory, Verdict, name as name_of};
 
-// Appends the line of each witness; if memory runs out, a part of them.
-fn append_locals_lines(
+// Appends a verdict and a colon; if memory runs out, a part of them.
+fn append_head(out: &mut Vec<u8>, verdict: Verdict) -> Result<(), NoMemory>
+    ensures { OnOk result (out.new.items ≡ out.old.items ++ (32 ∷ (verdict_name verdict ++ codes ": "))) }
+{
+    out.push(b' ')?;
+    append_text(out, name_of(verdict))?;
+    append_text(out, ": ")
+}
+
+// Appends the line of a verdict, and what decided it; if memory runs out, a part of it.
+fn append_decided_line(
     alloc: Global,
     out: &mut Vec<u8>,
+    names: &Names,
+    verdict: Verdict,
+    cause: &Cause,
+) -> Result<(), NoMemory>
+    ensures { OnOk result (out.new.items ≡ out.old.items
+        ++ shown_line ((32 ∷ (verdict_name verdict ++ codes ": ")) ++ decided_text names.now cause.now)) }
+{
+    let mut text = Vec::new(alloc);
+    append_head(&mut text, verdict)?;
+    append_decision(&mut text, names, cause)?;
+    append_shown(alloc, out, text.as_slice())
+}
+
+// Appends what decided the verdict of a witness, if it is worse than pass; if memory runs out, a part of it.
+#[tactic(auto, unfolding(crate::specs::Details::decided))]
+fn append_decided(
+    alloc: Global,
+    out: &mut Vec<u8>,
+    names: &Names,
+    witness: &Witness,
+) -> Result<(), NoMemory>
+    ensures { OnOk result (out.new.items ≡ out.old.items ++ spec.decided names.now witness.now) }
+{
+    let ending = CaseEnd::Over(witness.verdict);
+    match cause_of(alloc, ending, &[], witness.history.as_slice())? {
+        Some(cause) => append_decided_line(alloc, out, names, witness.verdict, &cause),
+        None => Ok(()),
+    }
+}
+
+// Appends the lines of a witness with these names; if memory runs out, a part of them.
+fn append_lines(
+    alloc: Global,
+    out: &mut Vec<u8>,
+    names: &Names,
+    behaviours: u16,
+    witness: &Witness,
+) -> Result<(), NoMemory>
+    requires some { 1 ≤ behaviours }
+    requires few { behaviours ≤ BEHAVIOURS }
+    requires legal { IsLegal behaviours (reverse witness.now.history) }
+    ensures { OnOk result (out.new.items ≡ out.old.items ++ (spec.locals names.now witness.now
+        ++ (spec.decided names.now witness.now ++ waits_text names.now behaviours witness.now.history))) }
+{
+    append_locals_line(alloc, out, names, behaviours, witness)?;
+    append_decided(alloc, out, names, witness)?;
+    append_waits(alloc, out, names, behaviours, witness.history.as_slice())
+}
+
+// Appends the lines of a witness with these names of behaviours; if memory runs out, a part of them.
+fn append_witness(
+    alloc: Global,
+    out: &mut Vec<u8>,
+    names: &[Name],
+    behaviours: u16,
+    witness: &Witness,
+) -> Result<(), NoMemory>
+    requires some { 1 ≤ behaviours }
+    requires few { behaviours ≤ BEHAVIOURS }
+    requires legal { IsLegal behaviours (reverse witness.now.history) }
+    ensures { OnOk result (out.new.items ≡ out.old.items ++ spec.witness_text names.now behaviours witness.now) }
+{
+    let names = names_in(alloc, witness.history.as_slice(), namings_of(alloc, names)?)?;
+    append_lines(alloc, out, &names, behaviours, witness)
+}
+
+// Appends the lines of each witness; if memory runs out, a part of them.
+fn append_each(
+    alloc: Global,
+    out: &mut Vec<u8>,
+    names: &[Name],
     behaviours: u16,
     found: &[Witness],
 ) -> Result<(), NoMemory>
     requires some { 1 ≤ behaviours }
     requires few { behaviours ≤ BEHAVIOURS }
     requires legal { All (λ w. IsLegal behaviours (reverse w.history)) found.now }
-    ensures { OnOk result (out.new.items ≡ out.old.items ++ flat_map locals found.now) }
+    ensures { OnOk result (out.new.items ≡ out.old.items ++ flat_map (spec.witness_text names.now behaviours) found.now) }
 {
     for witness in found {
-        append_locals_line(alloc, out, behaviours, witness)?;
+        append_witness(alloc, out, names, behaviours, witness)?;
     }
     Ok(())
 }
 
-// Appends who waits for whom in each witness; if memory runs out, a part of it.
-fn append_all_waits(
-    alloc: Global,
-    out: &mut Vec<u8>,
-    behaviours: u16,
-    found: &[Witness],
-) -> Result<(), NoMemory>
-    requires some { 1 ≤ behaviours }
-    requires few { behaviours ≤ BEHAVIOURS }
-    requires legal { All (λ w. IsLegal behaviours (reverse w.history)) found.now }
-    ensures { OnOk result (out.new.items ≡ out.old.items ++ flat_map (λ w. waits_text behaviours w.history) found.now) }
-{
-    for witness in found {
-        append_waits(alloc, out, behaviours, witness)?;
-    }
-    Ok(())
-}
-
-/// Appends what the search for the verdicts of these scripts shows. That is the local verdict of each component,
-/// the first witness next to each other one from where they part, and which run waits for whom if no run can
-/// continue. If the search came to its end, it is also which steps no course that it looked at carries out. A test
-/// case without behaviours has no line. If memory runs out, a part of it.
+/// Appends what the search for the verdicts of these scripts shows, of behaviours with these names. For each witness that
+/// is the local verdict of each component, the call that decided a verdict worse than pass, and which run waits for whom if
+/// no run can continue. Then it is where the first witness and each other one part. If the search came to its end, it is
+/// also which steps no course that it looked at carries out. A test case without behaviours has no line. If memory runs
+/// out, a part of it.
 #[tactic(auto, unfolding(crate::specs::Details::details))]
 pub fn append_details(
     alloc: Global,
     out: &mut Vec<u8>,
+    names: &[Name],
     scripts: &[Script],
     explored: &Explored,
 ) -> Result<(), NoMemory>
     requires few { length scripts.now ≤ BEHAVIOURS }
     requires legal { AreLegal scripts.now explored.now.found }
-    ensures { OnOk result (out.new.items ≡ out.old.items ++ details scripts.now explored.now) }
+    ensures { OnOk result (out.new.items ≡ out.old.items ++ spec.details names.now scripts.now explored.now) }
 {
     if scripts.is_empty() {
         return Ok(());
     }
     let behaviours = scripts.len() as u16;
     let found = explored.found.as_slice();
-    append_locals_lines(alloc, out, behaviours, found)?;
-    append_races(alloc, out, found)?;
-    append_all_waits(alloc, out, behaviours, found)?;
+    append_each(alloc, out, names, behaviours, found)?;
+    append_races(alloc, out, names, behaviours, found)?;
     match explored.ending {
         Ending::Complete => append_unseen(alloc, out, scripts, explored.reached.as_slice()),
         Ending::Undecided(_) => Ok(()),

@@ -5,12 +5,12 @@ mod components;
 mod details;
 mod line;
 mod locals;
+mod parting;
 mod race;
 mod state;
 mod steps;
 mod unseen;
 mod verdicts;
-mod waits;
 
 pub use details::append_details;
 pub use line::{append_line, append_witnesses, explored_status};

@@ -1,13 +1,15 @@
 //! What is printed about a test case that was explored.
-ghost use Rattle.std.specs.Prelude.{◌≡◌, ◌==◌, ◌++◌, IfOk, OnOk, if◌then◌else◌, length, nat_lt};
+ghost use Rattle.std.specs.Prelude.{◌≡◌, ◌==◌, ◌≤◌, ◌++◌, IfOk, OnOk, codes, if◌then◌else◌, length, nat_lt};
+ghost use Rattle.std.specs.Fmt.{decimal};
 ghost use Rattle.tc_course.specs.Prelude.{is_found as is_found_among};
 ghost use Rattle.tc_explored.specs.Line as line;
 
 use crate::verdicts::{VERDICTS, append_names};
 use std::alloc::Global;
-use tc_blocks::write_block;
+use tc_blocks::Header;
 use tc_course::{Ending, Explored, Limit, Witness, is_found};
 use tc_entry::Name;
+use tc_report::append_named_block;
 use tc_text::{append_number, append_text};
 use tc_verdict::{NoMemory, Verdict};
 
@@ -36,14 +38,13 @@ fn count_of(found: &[Witness]) -> usize
         .count()
 }
 
-// The limit that a search met.
-fn limit_words(limit: Limit) -> &'static str
-    ensures { result.now ≡ line.limit_words limit }
+// Appends after how many states a search met its limit, and these words of the limit; if memory runs out, a part of it.
+fn append_undecided(out: &mut Vec<u8>, states: usize, words: &str) -> Result<(), NoMemory>
+    ensures { OnOk result (out.new.items ≡ out.old.items ++ (codes " undecided after " ++ (decimal states ++ words.now))) }
 {
-    match limit {
-        Limit::States => " states: limit of states",
-        Limit::Memory => " states: limit of memory",
-    }
+    append_text(out, " undecided after ")?;
+    append_number(out, states as u64)?;
+    append_text(out, words)
 }
 
 // Appends how the search ended; if memory runs out, a part of it.
@@ -52,10 +53,11 @@ fn append_ending(out: &mut Vec<u8>, ending: Ending, states: usize) -> Result<(),
 {
     match ending {
         Ending::Complete => append_text(out, " complete"),
-        Ending::Undecided(limit) => {
-            append_text(out, " undecided after ")?;
-            append_number(out, states as u64)?;
-            append_text(out, limit_words(limit))
+        Ending::Undecided(Limit::States) => {
+            append_undecided(out, states, " states: limit of states")
+        }
+        Ending::Undecided(Limit::Memory) => {
+            append_undecided(out, states, " states: limit of memory")
         }
     }
 }
@@ -107,19 +109,20 @@ pub fn append_line(
     Ok(())
 }
 
-/// Appends the witnesses as histories of a test case of this name and of that many behaviours. If memory runs out, a
-/// part of them.
+/// Appends a block with this first line for each witness, with these names of behaviours. If memory runs out, a part of
+/// them.
 pub fn append_witnesses(
     out: &mut Vec<u8>,
-    name: &Name,
-    behaviours: u16,
+    header: &Header,
+    names: &[Name],
     explored: &Explored,
 ) -> Result<(), NoMemory>
-    ensures { OnOk result (out.new.items ≡ out.old.items ++ line.witnesses_text name.now behaviours explored.now) }
+    requires { length names.now ≤ u16.MAX }
+    ensures { OnOk result (out.new.items ≡ out.old.items ++ line.witnesses_text header.now names.now explored.now) }
 {
     for witness in explored.found.as_slice() {
         let history = witness.history.as_slice();
-        write_block(out, name, behaviours, history, witness.verdict)?;
+        append_named_block(out, header, names, history, witness.verdict)?;
     }
     Ok(())
 }

@@ -6,11 +6,11 @@ ghost use Rattle.tc_text.specs.Prelude.{shown_line};
 ghost use Rattle.tc_explored.specs.{Line.if_complete, Line.verdicts_where};
 ghost use Rattle.tc_explored.specs.Line as spec;
 
-use crate::components::append_comp;
 use crate::verdicts::{VERDICTS, append_names};
 use std::alloc::Global;
 use tc_course::{Ending, Locals, level};
 use tc_entry::Name;
+use tc_report::append_component;
 use tc_text::{append_number, append_shown, append_text};
 use tc_verdict::{NoMemory, Verdict};
 
@@ -89,8 +89,8 @@ fn append_line(
         return Ok(());
     }
     let mut text = Vec::new(alloc);
-    append_text(&mut text, " local")?;
-    append_comp(&mut text, comp as u64, name_at(locals, comp))?;
+    append_text(&mut text, " local ")?;
+    append_component(&mut text, comp as u64, name_at(locals, comp))?;
     append_text(&mut text, ":")?;
     append_or(alloc, &mut text, verdicts.as_slice())?;
     append_shown(alloc, out, text.as_slice())

@@ -1,23 +1,25 @@
-//! Two witnesses side by side, from where they part.
-ghost use Rattle.std.specs.Prelude.{◌≡◌, ◌≤◌, ◌++◌, [], ◌∷◌, IfOk, OnOk, bytes_eq, codes, drop, length};
+//! Two witnesses from where they part: side by side, or run by run.
+ghost use Rattle.std.specs.Prelude.{◌≡◌, ◌≤◌, ◌++◌, ◌∷◌, IfOk, OnOk, codes, drop, length};
 ghost use Rattle.tc_blocks.specs.Prelude.{entry_text};
 ghost use Rattle.tc_rules.specs.Prelude.{name_of as verdict_name};
 ghost use Rattle.tc_explored.specs.Race as spec;
 
+use crate::parting::append_partings;
 use std::alloc::Global;
 use tc_course::Witness;
-use tc_entry::Entry;
+use tc_entry::{Entry, Name};
+use tc_report::{append_named_call, no_names};
 use tc_text::{append_number, append_shown, append_text, write_move, write_reply};
 use tc_verdict::{NoMemory, name as name_of};
 
 /// The left column, if nothing is in it.
 const COLUMN: &str = "                                    ";
 
-/// How many lines of entries are shown.
+/// How many entries of a witness are shown next to those of another at most.
 const ROWS: usize = 12;
 
-// Appends an entry as histories spell it; if memory runs out, a part of it.
-fn append_entry(out: &mut Vec<u8>, entry: &Entry) -> Result<(), NoMemory>
+/// Appends an entry as histories spell it; if memory runs out, a part of it.
+pub(crate) fn append_entry(out: &mut Vec<u8>, entry: &Entry) -> Result<(), NoMemory>
     ensures { OnOk result (out.new.items ≡ out.old.items ++ entry_text entry.now) }
 {
     write_move(out, entry.caller, &entry.op)?;
@@ -25,19 +27,26 @@ fn append_entry(out: &mut Vec<u8>, entry: &Entry) -> Result<(), NoMemory>
     write_reply(out, &entry.reply)
 }
 
-// Whether two entries have the same text.
-fn is_alike(alloc: Global, left: &Entry, right: &Entry) -> Result<bool, NoMemory>
-    ensures { IfOk result (λ same. same ≡ bytes_eq (entry_text left.now) (entry_text right.now)) }
+// Appends a call and its reply, by numbers only.
+fn append_plain(alloc: Global, out: &mut Vec<u8>, entry: &Entry) -> Result<(), NoMemory>
+    ensures { OnOk result (out.new.items ≡ out.old.items ++ spec.plain_call entry.now) }
 {
-    let mut text = Vec::new(alloc);
-    append_entry(&mut text, left)?;
-    let mut other = Vec::new(alloc);
-    append_entry(&mut other, right)?;
-    Ok(text.as_slice() == other.as_slice())
+    append_named_call(out, &no_names(alloc), &entry.op, entry.reply)
 }
 
-// How many entries two histories have alike in front.
-fn alike_count(alloc: Global, left: &[Entry], right: &[Entry]) -> Result<usize, NoMemory>
+// Whether two entries are of the same run, with the same call and reply.
+fn is_alike(alloc: Global, left: &Entry, right: &Entry) -> Result<bool, NoMemory>
+    ensures { IfOk result (λ same. same ≡ spec.is_alike left.now right.now) }
+{
+    let mut text = Vec::new(alloc);
+    append_plain(alloc, &mut text, left)?;
+    let mut other = Vec::new(alloc);
+    append_plain(alloc, &mut other, right)?;
+    Ok(left.caller.0 == right.caller.0 && text.as_slice() == other.as_slice())
+}
+
+/// How many entries two lists have alike in front.
+pub(crate) fn alike_count(alloc: Global, left: &[Entry], right: &[Entry]) -> Result<usize, NoMemory>
     ensures is { IfOk result (λ count. count ≡ spec.alike_count left.now right.now) }
     ensures within { IfOk result (λ count. count ≤ length left.now) }
     ensures within_other { IfOk result (λ count. count ≤ length right.now) }
@@ -97,55 +106,22 @@ fn text_at(alloc: Global, history: &[Entry], at: usize) -> Result<Vec<u8>, NoMem
     Ok(text)
 }
 
-// Appends the line of the entries at a place, if one of both has an entry there; if memory runs out, a part of it.
-fn append_row_at(
+// Appends the entries of both in two columns; if memory runs out, a part of them.
+#[tactic(auto, using(tc_course::proofs::Lemmas::next_of))]
+fn append_rows(
     alloc: Global,
     out: &mut Vec<u8>,
     left: &[Entry],
     right: &[Entry],
-    at: usize,
 ) -> Result<(), NoMemory>
-    ensures { OnOk result (out.new.items ≡ out.old.items ++ spec.row_at left.now right.now at) }
+    ensures { OnOk result (out.new.items ≡ out.old.items ++ spec.rows left.now right.now) }
 {
-    if at < left.len() || at < right.len() {
+    for at in 0..left.len().max(right.len()) {
         let text = text_at(alloc, left, at)?;
         let other = text_at(alloc, right, at)?;
-        append_row(alloc, out, text.as_slice(), other.as_slice())
-    } else {
-        Ok(())
-    }
-}
-
-// Appends the first entries of both in two columns; if memory runs out, a part of them.
-#[tactic(auto, unfolding(crate::specs::Race::first_rows), using(tc_course::proofs::Lemmas::next_of))]
-fn append_first_rows(
-    alloc: Global,
-    out: &mut Vec<u8>,
-    left: &[Entry],
-    right: &[Entry],
-) -> Result<(), NoMemory>
-    ensures { OnOk result (out.new.items ≡ out.old.items ++ spec.first_rows left.now right.now) }
-{
-    for at in 0..ROWS {
-        append_row_at(alloc, out, left, right, at)?;
+        append_row(alloc, out, text.as_slice(), other.as_slice())?;
     }
     Ok(())
-}
-
-// Appends a line if one of both has more entries; if memory runs out, a part of it.
-fn append_more(
-    alloc: Global,
-    out: &mut Vec<u8>,
-    left: &[Entry],
-    right: &[Entry],
-) -> Result<(), NoMemory>
-    ensures { OnOk result (out.new.items ≡ out.old.items ++ spec.more_rows left.now right.now) }
-{
-    if ROWS < left.len() || ROWS < right.len() {
-        append_shown(alloc, out, b" ..")
-    } else {
-        Ok(())
-    }
 }
 
 // Appends the verdicts of two witnesses; if memory runs out, a part of them.
@@ -177,38 +153,47 @@ fn append_alike(
     append_shown(alloc, out, text.as_slice())
 }
 
-// Appends two witnesses side by side from where they part; if memory runs out, a part of it.
+// Appends how far two witnesses are alike, and where they part; if memory runs out, a part of it.
 fn append_race(
     alloc: Global,
     out: &mut Vec<u8>,
+    names: &[Name],
+    behaviours: u16,
     witness: &Witness,
     other: &Witness,
 ) -> Result<(), NoMemory>
-    ensures { OnOk result (out.new.items ≡ out.old.items ++ spec.race witness.now other.now) }
+    ensures { OnOk result (out.new.items ≡ out.old.items ++ spec.race names.now behaviours witness.now other.now) }
 {
     let left = witness.history.as_slice();
     let right = other.history.as_slice();
     let count = alike_count(alloc, left, right)?;
     append_alike(alloc, out, witness, other, count)?;
+    let rest = &left[count..];
+    let others = &right[count..];
+    if ROWS < rest.len() || ROWS < others.len() {
+        return append_partings(alloc, out, names, behaviours, left, right);
+    }
     let head = name_of(witness.verdict).as_bytes();
     append_row(alloc, out, head, name_of(other.verdict).as_bytes())?;
-    append_first_rows(alloc, out, &left[count..], &right[count..])?;
-    append_more(alloc, out, &left[count..], &right[count..])
+    append_rows(alloc, out, rest, others)
 }
 
-/// Appends the first witness next to each other one, from where they part. If memory runs out, a part of it.
+/// Appends the first witness next to each other one, from where they part, in a test case with these names of behaviours.
+/// If memory runs out, a part of it.
 pub(crate) fn append_races(
     alloc: Global,
     out: &mut Vec<u8>,
+    names: &[Name],
+    behaviours: u16,
     found: &[Witness],
 ) -> Result<(), NoMemory>
-    ensures { OnOk result (out.new.items ≡ out.old.items ++ spec.races found.now) }
+    ensures { OnOk result (out.new.items ≡ out.old.items ++ spec.races names.now behaviours found.now) }
 {
     let Some((witness, others)) = found.split_first() else {
         return Ok(());
     };
     for other in others {
-        append_race(alloc, out, witness, other)?;
+        append_race(alloc, out, names, behaviours, witness, other)?;
     }
     Ok(())
 }

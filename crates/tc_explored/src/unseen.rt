@@ -1,5 +1,6 @@
 //! The steps that no course which was looked at carries out.
-ghost use Rattle.std.specs.Prelude.{◌≡◌, ◌<◌, ◌≤◌, ◌++◌, OnOk, Some, length, slice_index_or};
+ghost use Rattle.std.specs.Prelude.{◌≡◌, ◌<◌, ◌≤◌, ◌+◌, ◌++◌, OnOk, Some, codes, length, slice_index_or};
+ghost use Rattle.std.specs.Fmt.{decimal};
 ghost use Rattle.tc_entry.specs.declared.limits.TheConstants.{BEHAVIOURS};
 ghost use Rattle.tc_text.specs.Prelude.{shown_line};
 ghost use Rattle.tc_explored.specs.Details.{unseen, unseen_among};
@@ -23,7 +24,8 @@ fn reached_by(reached: &[usize], run: u16) -> usize
 // Appends which step it is, after that many others; if memory runs out, a part of it.
 fn append_place(out: &mut Vec<u8>, before: usize, steps: usize) -> Result<(), NoMemory>
     requires { before < steps }
-    ensures { OnOk result (out.new.items ≡ out.old.items ++ details.step_place before steps) }
+    ensures { OnOk result (out.new.items ≡ out.old.items ++ (codes " from step "
+        ++ (decimal (before + 1) ++ (codes " of " ++ decimal steps)))) }
 {
     append_text(out, " from step ")?;
     append_number(out, before as u64 + 1)?;
@@ -34,7 +36,8 @@ fn append_place(out: &mut Vec<u8>, before: usize, steps: usize) -> Result<(), No
 // Appends which step of a run it is; if memory runs out, a part of it.
 fn append_which(out: &mut Vec<u8>, run: u64, before: usize, steps: usize) -> Result<(), NoMemory>
     requires { before < steps }
-    ensures { OnOk result (out.new.items ≡ out.old.items ++ details.unseen_place run before steps) }
+    ensures { OnOk result (out.new.items ≡ out.old.items ++ (codes " not seen: run "
+        ++ (decimal run ++ (codes " from step " ++ (decimal (before + 1) ++ (codes " of " ++ decimal steps)))))) }
 {
     append_text(out, " not seen: run ")?;
     append_number(out, run)?;

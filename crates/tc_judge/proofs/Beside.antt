@@ -1,17 +1,12 @@
 -- Blocks next to the test cases of their script: what is kept of them while they are taken in.
-use Rattle.std.proofs.Common.{ℕ, zero, suc, ◌≡◌, ◌∙◌, ◌+◌, ◌<◌, ◌≤◌, ◌||◌, ◌==◌, cond, not, nat_lt, Bool, true, false, Option, Some, None, List, [], ◌∷◌, ◌++◌, drop, if◌then◌else◌, map, length, get_or, replicate, reverse, take, slice_get, slice_index_or, slice_set, get_or-set_same, refl, sym, ap, ap₂, subst, arith}
-use Rattle.std.proofs.lemmas.{Bool.Decides.nat_tests, Grind.elements, List.Quantifiers.position-Some, List.append-nil, List.drop_more, List.map-append, List.reverse-append, List.take-append-drop, List.take_all, List.take_more}
-use Rattle.std.specs.{Cmp.Lexicographic.bytes_decides, List.AllZip, List.list_any, List.position_or_len, Option.option_map_or}
+use Rattle.std.{proofs.{Common.{ℕ, zero, suc, ◌≡◌, ◌∙◌, ◌+◌, ◌<◌, ◌≤◌, ◌||◌, ◌==◌, cond, not, nat_lt, Bool, true, false, Option, Some, None, List, [], ◌∷◌, ◌++◌, drop, if◌then◌else◌, map, length, get_or, replicate, reverse, take, slice_get, slice_index_or, slice_set, get_or-set_same, refl, sym, ap, ap₂, subst, arith}, lemmas.{Bool.Decides.nat_tests, Grind.elements, List.{Quantifiers.position-Some, append-nil, drop_more, map-append, reverse-append, take-append-drop, take_all, take_more}}}, specs.{Cmp.Lexicographic.bytes_decides, List.{AllZip, list_any, position_or_len}, Option.option_map_or}}
 use Rattle.tc_blocks.specs.declared.block.Block.{Block}
 use Rattle.tc_reader.specs.Prelude.{is_text, CampaignView, Word, add, among, has_twice}
 use Rattle.tc_step.specs.Prelude.{ScriptView}
-use Rattle.tc_answer.specs.Prelude.{CaseView, scripts_of, RefusesChoice, blocks_part, script_part}
+use Rattle.tc_answer.{specs.{Prelude.{CaseView, scripts_of, RefusesChoice, blocks_part, script_part}, Inside.{AreReady, IsCaseOf}, declared.fault.RunFault.RunFault}, proofs.Lemmas.Chosen.{or_left, or_right}}
 use Rattle.tc_exec.specs.declared.test_case.Case.{Case}
 use Rattle.tc_command.specs.declared.task.Choice.{Choice}
-use Rattle.tc_answer.specs.{Inside.AreReady, Inside.IsCaseOf, declared.fault.RunFault.RunFault}
-use Rattle.tc_answer.proofs.Lemmas.Chosen.{or_left, or_right}
-use Rattle.tc_judge.specs.{Check.RefusesHistory, Compared.AreJudged, Compared.RefusesAgainst, Compared.has_block_named, Compared.has_later, Compared.missing, Compared.note, Compared.place_in, Inside.AddsIfMissing, Inside.AreComparable, Inside.AreMissing, Inside.AreMissingTo, Inside.IsJudgedBlock, Inside.IsWholeOfBlock, Inside.Judges, Inside.SaysNext, Inside.StandsBeside, declared.compare.Comparing.Comparing, declared.compare.Wrong.Wrong, declared.judged.Judged.Judged, declared.kept.Whole.Whole}
-use Rattle.tc_judge.proofs.{Counting.found_below, Counting.same_word, Lemmas.few_jobs}
+use Rattle.tc_judge.{specs.{Check.RefusesHistory, Compared.{AreJudged, RefusesAgainst, has_block_named, has_later, missing, note, place_in}, Inside.{AddsIfMissing, AreComparable, AreMissing, AreMissingTo, IsJudgedBlock, IsWholeOfBlock, Judges, SaysNext, StandsBeside}, declared.{compare.{Comparing.Comparing, Wrong.Wrong}, judged.Judged.Judged, kept.Whole.Whole}}, proofs.{Counting.{found_below, same_word}, Lemmas.few_jobs}}
 
 -- ---- names
 

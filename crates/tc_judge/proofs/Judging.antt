@@ -1,21 +1,18 @@
 -- Judged blocks: what `check` and `report` make of them.
-use Rattle.std.proofs.Common.{ℕ, ◌≡◌, ◌∙◌, ◌&&◌, ◌||◌, ◌==◌, cond, not, Bool, true, false, Option, Some, None, List, [], ◌∷◌, ◌++◌, if◌then◌else◌, filter, length, map, reverse, refl, ap, ap₂, sym, subst, codes}
-use Rattle.std.proofs.lemmas.List.Elements.{All-cons, All-head, All-nil, All-tail}
-use Rattle.std.specs.List.{AllZip, list_any}
-use Rattle.std.specs.Prelude.{is_some, Ok}
-use Rattle.tc_answer.specs.Prelude.{have_names}
-use Rattle.tc_blocks.specs.declared.{block.Block.Block, line.Line.Line}
-use Rattle.tc_blocks.specs.Prelude.{AreEvidence, entries_of, history_of}
-use Rattle.tc_answer.specs.declared.{fault.RunFault.RunFault, reply.Answer.Answer}
+use Rattle.std.{proofs.{Common.{ℕ, ◌≡◌, ◌≢◌, ◌∙◌, ◌&&◌, ◌||◌, ◌==◌, cond, not, Bool, true, false, Option, Some, None, List, [], ◌∷◌, ◌++◌, if◌then◌else◌, filter, length, map, reverse, refl, ap, ap₂, sym, subst, codes, Result, Err}, lemmas.List.{append-nil, Elements.{All-cons, All-head, All-nil, All-tail}}}, specs.{List.{AllZip, flat_map, list_any}, Prelude.{IsErrAnd, is_some, Ok}}}
+use Rattle.tc_answer.{specs.{Prelude.have_names, declared.{fault.RunFault.RunFault, reply.Answer.Answer}}, proofs.Lemmas.Chosen.at_place}
+use Rattle.tc_blocks.specs.{declared.{block.Block.Block, line.Line.Line}, Prelude.{AreEvidence, entries_of, entry_in}}
 use Rattle.tc_command.specs.declared.task.{Choice.Choice, ReportForm.ReportForm}
-use Rattle.tc_report.specs.Prelude.{block_summary, bare_summary, summary_of, verdict_status, worst_of}
-use Rattle.tc_report.specs.declared.{results.CaseEnd.CaseEnd, summary.Summary.Summary}
+use Rattle.tc_report.{specs.{Prelude.{block_summary, blocks_report, bare_summary, replayed_text, said_in, said_with, summary_of, verdict_status, verdicts_closing, worst_of}, declared.{results.CaseEnd.CaseEnd, said.Said.Said, summary.Summary.Summary}}, proofs.Lemmas.Telling.said_more}
 use Rattle.tc_rules.specs.Prelude.{Entry, StandsFor, Verdict, matches, name_of}
 use Rattle.tc_text.specs.Prelude.{reply_text}
 use Rattle.tc_reader.specs.Prelude.{Word}
-use Rattle.tc_judge.specs.{Check.AreAllLegal, Check.Checks, Check.IsChecked, Check.IsIllegalLine, Check.IsLegalBlock, Check.IsMadeOfBlocks, Check.IsSilent, Check.NameBlocks, Check.RefusesBlocks, Check.disagreeing_line, Inside.AreJudgedIn, Inside.IsFirstIllegal, Inside.IsJudgedBlock, Inside.IsJudgement, Inside.IsPlayed, Inside.IsPlayedTo, Inside.IsSummaryOf, Inside.IsTextFor, Inside.IsWholeOfBlock, Inside.Reports, Inside.block_name, Inside.first_illegal, Inside.illegal_line, Inside.is_picked, Inside.judged_name, Inside.judges_legal, Inside.line_of_judgement, Inside.picked_by, Inside.printed, Inside.recorded, Inside.recorded_in, Inside.summary_by, Check.counting, Check.is_chosen, Report.AnswersCases, Report.IsForm, Report.IsReport, Report.summaries_of, declared.judged.Judged.Judged, declared.kept.Whole.Whole, declared.playing.Difference.Difference, declared.playing.Judgement.Judgement, declared.playing.Playing.Playing, Inside.gives_text, Inside.made_line}
-use Rattle.tc_judge.proofs.{Lemmas.answer_of, Lemmas.block_line, Lemmas.none_illegal, Lemmas.entries_last, Lemmas.no_difference}
-use Rattle.tc_answer.proofs.Lemmas.Chosen.{at_place}
+use Rattle.tc_judge.{specs.{Check.{AreAllLegal, Checks, IsChecked, IsIllegalLine, IsLegalBlock, IsMadeOfBlocks, IsSilent, NameBlocks, RefusesBlocks, disagreeing_line, counting, is_chosen}, Inside.{AreChosenBlocks, AreJudgedIn, IsFirstIllegal, IsJudgedBlock, IsJudgement, IsPlayed, IsPlayedTo, IsSummaryOf, IsTextFor, IsWholeOfBlock, Reports, block_name, first_illegal, illegal_line, is_picked, judged_name, judged_report, judged_text, judges_legal, line_of_judgement, picked_by, printed, summary_by, gives_text, made_line}, Report.{AnswersCases, IsForm, IsReport, body_of, summaries_of, is_of_judged}, declared.{judged.Judged.Judged, kept.Whole.Whole, playing.{Difference.Difference, Judgement.Judgement, Playing.Playing}}}, proofs.Lemmas.{answer_of, block_line, none_illegal, entries_last, no_difference}}
+
+-- what holds of a fault holds of the answer that passes it on
+pub passed_on : {A E : Type 0} (holds : Result A E → Type 0) (answer : Result A E) (fault : E) → IsErrAnd answer (λ f. f ≡ fault) → holds (Err fault) → holds answer
+passed_on holds (Ok x) fault is so = absurd is
+passed_on holds (Err f) fault is so = subst (λ g. holds (Err g)) (sym is) so
 
 -- the line of another reply or verdict is made so
 pub other_made : (line : ℕ) (given table : List ℕ) → made_line line given table ≡ disagreeing_line line given table
@@ -24,14 +21,13 @@ other_made line given table = at_place line (given ++ (codes ", table gives " ++
 
 -- ---- what is recorded
 
-pub recorded_none : (records : Bool) → recorded records [] ≡ []
-recorded_none true = refl
-recorded_none false = refl
-
--- what is recorded of lines and of one more
-pub recorded_more : (records : Bool) (lines : List Line) (l : Line) → recorded records (lines ++ l ∷ []) ≡ recorded records lines ++ recorded_in records l
-recorded_more true lines l = entries_last lines l
-recorded_more false lines l = refl
+-- the entries among lines and what is said next to them, with one more line
+pub line_recorded : (before : List Line) (l : Line) (entries entries' : List Entry) (said said' : Said) → entries' ≡ entries ++ entry_in l → said' ≡ said_with said (length entries) l
+    → (entries ≡ entries_of before) × (said ≡ said_in before) → (entries' ≡ entries_of (before ++ l ∷ [])) × (said' ≡ said_in (before ++ l ∷ []))
+line_recorded before l entries entries' said said' more next is = (
+  more ∙ (ap (λ (es : List Entry). es ++ entry_in l) is.0 ∙ sym (entries_last before l)),
+  next ∙ (ap₂ (λ (s : Said) (es : List Entry). said_with s (length es) l) is.1 is.0 ∙ sym (said_more before l)),
+)
 
 -- the line of a block that is not legal
 illegal_said : (b : Block) (k : Judgement) → judges_legal k ≡ false → IsJudgement b k → IsIllegalLine b (illegal_line k)
@@ -96,9 +92,9 @@ module _ {K : Type 0} (keeps : Block → K → Type 0) where
   same_names (pattern ∷ only) bs js each = ap₂ (λ x y. x && y) (any_named (matches pattern) bs js each) (same_names only bs js each)
 
   -- if all blocks are legal, the patterns name blocks
-  pub names_found : (choice : Choice) (only : List Word) (text : List ℕ) (js : List (Judged K)) → only ≡ choice.only.items → AreJudgedIn keeps choice.last text js
+  pub all_named : (choice : Choice) (only : List Word) (text : List ℕ) (js : List (Judged K)) → only ≡ choice.only.items → AreJudgedIn keeps choice.last text js
       → (is_some (first_illegal js) || have_names judged_name only js) ≡ true → NameBlocks choice.last choice.only.items text
-  names_found choice only text js same are found =
+  all_named choice only text js same are found =
       subst (λ o. NameBlocks choice.last o text) same (λ all is. by (counting choice.last all) (are.holds all is) (first_illegal js) (first_found (counting choice.last all) js (are.holds all is)) found)
     where
       by : (bs : List Block) → AllZip (IsJudgedBlock keeps) bs js → (o : Option Judgement) → IsFirstIllegal bs o
@@ -148,58 +144,109 @@ module _ {K : Type 0} (keeps : Block → K → Type 0) where
       → IsMadeOfBlocks choice text (IsSilent (IsChecked choice.last (is_chosen choice) text)) (Ok (answer_of out [] status))
   blocks_checked choice only text out status js same are found lines status_is = (
     (all_checked choice.last (is_picked choice.only.items choice.failed) text out status js are (lines ∙ ap (λ o. printed (is_picked o choice.failed) js) same) status_is, refl),
-    names_found choice only text js same are found,
+    all_named choice only text js same are found,
   )
 
 -- ---- what `report` makes of them
 
--- what the forms say of a block
-abbrev pub summary_at : Block → Summary
-summary_at = λ b. block_summary (history_of b)
-
 -- the summary of what was played is that of the block, if it is legal
 pub summary_kept : (b : Block) (p : Playing) (entries : List Entry) (s : Summary) → IsPlayed b.first_line b.header b.lines p → entries ≡ entries_of b.lines
-    → (StandsFor p.state (reverse entries) → s ≡ summary_of p.header.name entries) → IsSummaryOf b s
-summary_kept b p entries s played are says legal = by p.difference played.1
+    → (said : Said) → said ≡ said_in b.lines → (StandsFor p.state (reverse entries) → s ≡ summary_of p.header.name p.state.behaviours entries said) → IsSummaryOf b s
+summary_kept b p entries s played are said same says legal = by p.difference played.1
   where
-    by : (d : Option Difference) → IsPlayedTo b.header.behaviours b.first_line b.lines p.state p.entries d → s ≡ summary_at b
+    by : (d : Option Difference) → IsPlayedTo b.header.behaviours b.first_line b.lines p.state p.entries d → s ≡ block_summary b
     by None is =
         says (subst (λ l. StandsFor p.state (reverse l)) (sym are) is.1)
-        ∙ (ap (summary_of p.header.name) are ∙ ap (λ h. summary_of h.name (entries_of b.lines)) played.0)
+        ∙ (ap₂ (summary_of p.header.name p.state.behaviours) are same
+        ∙ ap₂ (λ (name : List ℕ) (n : ℕ). summary_of name n (entries_of b.lines) (said_in b.lines)) (ap (λ h. h.name) played.0) is.0)
     by (Some d) is = absurd (no_difference b.header.behaviours b.lines is.before is.behind is.entry d.reply legal.replies is.place is.answers is.other)
 
--- the blocks that are picked
-pub picked_reports : (picks : Word → Verdict → Bool) (bs : List Block) (js : List (Judged Summary)) (o : Option Judgement)
-    → AllZip (IsJudgedBlock IsSummaryOf) bs js → o ≡ first_illegal js
-    → Reports bs (filter (picked_by picks) bs) (map (summary_by (λ s. s)) (filter (λ j. picks j.name j.verdict) js)) o
-picked_reports picks bs js o each first = (subst (IsFirstIllegal bs) (sym first) (first_found IsSummaryOf bs js each), by bs js each)
-  where
-    by : (bs : List Block) (js : List (Judged Summary)) → AllZip (IsJudgedBlock IsSummaryOf) bs js → AreAllLegal bs
-        → map (summary_by (λ s. s)) (filter (λ j. picks j.name j.verdict) js) ≡ map summary_at (filter (picked_by picks) bs)
-    by [] [] each legal = refl
-    by [] (j ∷ js) each legal = absurd each
-    by (b ∷ bs) [] each legal = absurd each
-    by (b ∷ bs) (j ∷ js) each legal =
-        one (picks j.name j.verdict) (each.0.kept (All-head IsLegalBlock b bs legal)) (by bs js each.1 (All-tail IsLegalBlock b bs legal))
-        ∙ ap (λ t. map summary_at (if t then b ∷ filter (picked_by picks) bs else filter (picked_by picks) bs)) (ap₂ picks each.0.name each.0.verdict)
-      where
-        one : (t : Bool) → j.kept ≡ summary_at b → map (summary_by (λ s. s)) (filter (λ x. picks x.name x.verdict) js) ≡ map summary_at (filter (picked_by picks) bs)
-            → map (summary_by (λ s. s)) (if t then j ∷ filter (λ x. picks x.name x.verdict) js else filter (λ x. picks x.name x.verdict) js)
-            ≡ map summary_at (if t then b ∷ filter (picked_by picks) bs else filter (picked_by picks) bs)
-        one true is rest = ap₂ (λ (s : Summary) (l : List Summary). s ∷ l) is rest
-        one false is rest = rest
+module _ {K : Type 0} (keeps : Block → K → Type 0) (picks : Word → Verdict → Bool) where
+  -- the judged blocks that are picked are those of the blocks that are
+  pub picked_each : (bs : List Block) (js : List (Judged K)) → AllZip (IsJudgedBlock keeps) bs js
+      → AllZip (IsJudgedBlock keeps) (filter (picked_by picks) bs) (filter (λ j. picks j.name j.verdict) js)
+  picked_each [] [] each = tt
+  picked_each [] (j ∷ js) each = absurd each
+  picked_each (b ∷ bs) [] each = absurd each
+  picked_each (b ∷ bs) (j ∷ js) each =
+      subst (λ t. AllZip (IsJudgedBlock keeps) (if t then b ∷ filter (picked_by picks) bs else filter (picked_by picks) bs)
+      (if picks j.name j.verdict then j ∷ filter (λ x. picks x.name x.verdict) js else filter (λ x. picks x.name x.verdict) js))
+      (ap₂ picks each.0.name each.0.verdict) (by (picks j.name j.verdict) (picked_each bs js each.1))
+    where
+      by : (t : Bool) → AllZip (IsJudgedBlock keeps) (filter (picked_by picks) bs) (filter (λ x. picks x.name x.verdict) js)
+          → AllZip (IsJudgedBlock keeps) (if t then b ∷ filter (picked_by picks) bs else filter (picked_by picks) bs)
+          (if t then j ∷ filter (λ x. picks x.name x.verdict) js else filter (λ x. picks x.name x.verdict) js)
+      by true rest = (each.0, rest)
+      by false rest = rest
 
--- all blocks, next to a script
-pub all_reports : (bs : List Block) (js : List (Judged (Whole Summary))) (o : Option Judgement) → AllZip (IsJudgedBlock (IsWholeOfBlock IsSummaryOf)) bs js
-    → o ≡ first_illegal js → Reports bs bs (map (summary_by (λ w. w.said)) js) o
-all_reports bs js o each first = (subst (IsFirstIllegal bs) (sym first) (first_found (IsWholeOfBlock IsSummaryOf) bs js each), by bs js each)
+  -- if all blocks are legal, those that are picked are
+  pub picked_legal : (bs : List Block) → AreAllLegal bs → AreAllLegal (filter (picked_by picks) bs)
+  picked_legal [] all = all
+  picked_legal (b ∷ bs) all = by (picked_by picks b) (picked_legal bs (All-tail IsLegalBlock b bs all))
+    where
+      by : (t : Bool) → AreAllLegal (filter (picked_by picks) bs) → AreAllLegal (if t then b ∷ filter (picked_by picks) bs else filter (picked_by picks) bs)
+      by true rest = All-cons IsLegalBlock b (filter (picked_by picks) bs) (All-head IsLegalBlock b bs all) rest
+      by false rest = rest
+
+-- the summaries of legal blocks
+summaries_alike : {K : Type 0} (keeps : Block → K → Type 0) (summary : K → Summary) → ((b : Block) (k : K) → keeps b k → IsLegalBlock b → summary k ≡ block_summary b)
+    → (cs : List Block) (js : List (Judged K)) → AllZip (IsJudgedBlock keeps) cs js → AreAllLegal cs → map (summary_by summary) js ≡ map block_summary cs
+summaries_alike keeps summary same [] [] each legal = refl
+summaries_alike keeps summary same [] (j ∷ js) each legal = absurd each
+summaries_alike keeps summary same (c ∷ cs) [] each legal = absurd each
+summaries_alike keeps summary same (c ∷ cs) (j ∷ js) each legal =
+    ap₂ (λ (s : Summary) (l : List Summary). s ∷ l) (same c j.kept each.0.kept (All-head IsLegalBlock c cs legal))
+    (summaries_alike keeps summary same cs js each.1 (All-tail IsLegalBlock c cs legal))
+
+module _ {K : Type 0} (keeps : Block → K → Type 0) where
+  -- those that are picked, or all
+  pub picked_chosen : (picks : Word → Verdict → Bool) (bs : List Block) (js : List (Judged K)) (o : Option Judgement) → AllZip (IsJudgedBlock keeps) bs js
+      → o ≡ first_illegal js → AreChosenBlocks keeps bs (filter (picked_by picks) bs) (filter (λ j. picks j.name j.verdict) js) o
+  picked_chosen picks bs js o each first = record {
+    each = picked_each keeps picks bs js each;
+    first = subst (IsFirstIllegal bs) (sym first) (first_found keeps bs js each);
+    legal = picked_legal keeps picks bs;
+  }
+
+  pub all_chosen : (bs : List Block) (js : List (Judged K)) (o : Option Judgement) → AllZip (IsJudgedBlock keeps) bs js → o ≡ first_illegal js
+      → AreChosenBlocks keeps bs bs js o
+  all_chosen bs js o each first = record { each = each; first = subst (IsFirstIllegal bs) (sym first) (first_found keeps bs js each); legal = λ legal. legal }
+
+  -- what the forms say of them
+  pub chosen_reports : (summary : K → Summary) → ((b : Block) (k : K) → keeps b k → IsLegalBlock b → summary k ≡ block_summary b) → (bs cs : List Block)
+      (js : List (Judged K)) (o : Option Judgement) → AreChosenBlocks keeps bs cs js o → Reports bs cs (map (summary_by summary) js) o
+  chosen_reports summary same bs cs js o are = (are.first, λ legal. summaries_alike keeps summary same cs js are.each (are.legal legal))
+
+-- what the text report says of a block
+abbrev block_report : Block → List ℕ
+block_report b = replayed_text (block_summary b) b.header.behaviours (entries_of b.lines) b.verdict
+
+-- the text report of legal blocks
+report_alike : (c : Block) (j : Judged (Whole Summary)) → IsJudgedBlock (IsWholeOfBlock IsSummaryOf) c j → IsLegalBlock c → judged_report j ≡ block_report c
+report_alike c j is legal =
+    let said = is.kept.said legal in
+    ap (λ s. replayed_text s j.kept.behaviours j.kept.entries.items j.verdict) said
+    ∙ rw (is.kept.behaviours, is.kept.entries, is.verdict) refl
+
+pub text_alike : (cs : List Block) (js : List (Judged (Whole Summary))) → AllZip (IsJudgedBlock (IsWholeOfBlock IsSummaryOf)) cs js → AreAllLegal cs
+    → judged_text js ≡ blocks_report cs
+text_alike cs js each legal = ap₂ (λ l vs. l ++ verdicts_closing vs) (texts cs js each legal) (verdicts cs js each)
   where
-    by : (bs : List Block) (js : List (Judged (Whole Summary))) → AllZip (IsJudgedBlock (IsWholeOfBlock IsSummaryOf)) bs js → AreAllLegal bs → map (summary_by (λ w. w.said)) js ≡ map summary_at bs
-    by [] [] each legal = refl
-    by [] (j ∷ js) each legal = absurd each
-    by (b ∷ bs) [] each legal = absurd each
-    by (b ∷ bs) (j ∷ js) each legal =
-        ap₂ (λ (s : Summary) (l : List Summary). s ∷ l) (each.0.kept.said (All-head IsLegalBlock b bs legal)) (by bs js each.1 (All-tail IsLegalBlock b bs legal))
+    texts : (cs : List Block) (js : List (Judged (Whole Summary))) → AllZip (IsJudgedBlock (IsWholeOfBlock IsSummaryOf)) cs js → AreAllLegal cs
+        → flat_map judged_report js ≡ flat_map block_report cs
+    texts [] [] each legal = refl
+    texts [] (j ∷ js) each legal = absurd each
+    texts (c ∷ cs) [] each legal = absurd each
+    texts (c ∷ cs) (j ∷ js) each legal =
+        ap₂ (λ (x : List ℕ) (l : List ℕ). x ++ l) (report_alike c j each.0 (All-head IsLegalBlock c cs legal))
+        (texts cs js each.1 (All-tail IsLegalBlock c cs legal))
+
+    verdicts : (cs : List Block) (js : List (Judged (Whole Summary))) → AllZip (IsJudgedBlock (IsWholeOfBlock IsSummaryOf)) cs js
+        → map (λ j. j.verdict) js ≡ map (λ b. b.verdict) cs
+    verdicts [] [] each = refl
+    verdicts [] (j ∷ js) each = absurd each
+    verdicts (c ∷ cs) [] each = absurd each
+    verdicts (c ∷ cs) (j ∷ js) each = ap₂ (λ (v : Verdict) (l : List Verdict). v ∷ l) each.0.verdict (verdicts cs js each.1)
 
 -- an answer for test cases
 pub answer_made : (form : ReportForm) (text notes lent : List ℕ) (ss : List Summary) (out told : List ℕ) (worst status : ℕ) → IsForm form text ss out → told ≡ notes → lent ≡ notes
@@ -207,18 +254,33 @@ pub answer_made : (form : ReportForm) (text notes lent : List ℕ) (ss : List Su
 answer_made form text notes lent ss out told worst status out_is told_is same worst_is status_is =
     (out_is, told_is, status_is ∙ ap₂ (λ l w. if length l == 0 then w else 3) same worst_is)
 
--- what is made of a text, none of whose blocks is illegal
-pub legal_report : (form : ReportForm) (text : List ℕ) (ss : List Summary) (names : List (List ℕ)) (notes : List ℕ) (a : Answer) (blocks chosen : List Block)
-    → AnswersCases form text notes (ss ++ map (bare_summary CaseEnd.Missing) names) a → Reports blocks chosen ss None → IsReport form text blocks chosen names notes a
-legal_report form text ss names notes a blocks chosen is made =
-    IsReport.legal made.0 (subst (λ l. AnswersCases form text notes (l ++ map (bare_summary CaseEnd.Missing) names) a) (made.1 made.0) is)
+-- the text of all blocks is that of each form but the text report
+pub other_text : (form : ReportForm) (given : List ℕ) (chosen : List Block) → form ≢ ReportForm.Text → IsTextFor form given chosen given
+other_text ReportForm.Text given chosen other = absurd (other refl)
+other_text ReportForm.Csv given chosen other = tt
+other_text (ReportForm.Junit suite) given chosen other = tt
+other_text ReportForm.Html given chosen other = refl
+other_text ReportForm.Summary given chosen other = tt
 
--- the text counts only for a form that is made of it
-pub of_any_text : (form : ReportForm) (given text : List ℕ) (blocks chosen : List Block) (names : List (List ℕ)) (notes : List ℕ) (a : Answer) → IsTextFor form given text
-    → IsReport form text blocks chosen names notes a → IsReport form given blocks chosen names notes a
-of_any_text form given text blocks chosen names notes a same (IsReport.illegal line checks is) = IsReport.illegal line checks is
-of_any_text ReportForm.Csv given text blocks chosen names notes a same (IsReport.legal legal is) = IsReport.legal legal is
-of_any_text (ReportForm.Junit suite) given text blocks chosen names notes a same (IsReport.legal legal is) = IsReport.legal legal is
-of_any_text ReportForm.Html given text blocks chosen names notes a same (IsReport.legal legal is) =
-    IsReport.legal legal (subst (λ t. AnswersCases ReportForm.Html t notes (summaries_of chosen names) a) (same refl) is)
-of_any_text ReportForm.Summary given text blocks chosen names notes a same (IsReport.legal legal is) = IsReport.legal legal is
+-- and a form of what is judged needs none
+pub no_text : (form : ReportForm) (given text : List ℕ) (chosen : List Block) → is_of_judged form ≡ true → IsTextFor form given chosen text
+no_text ReportForm.Text given text chosen is = absurd cc
+no_text ReportForm.Csv given text chosen is = tt
+no_text (ReportForm.Junit suite) given text chosen is = tt
+no_text ReportForm.Html given text chosen is = absurd cc
+no_text ReportForm.Summary given text chosen is = tt
+
+-- what is made of a text, none of whose blocks is illegal
+pub legal_report : (form : ReportForm) (given text : List ℕ) (ss : List Summary) (names : List (List ℕ)) (notes : List ℕ) (a : Answer) (blocks chosen : List Block)
+    → (AreAllLegal blocks → IsTextFor form given chosen text) → AnswersCases form text notes (ss ++ map (bare_summary CaseEnd.Missing) names) a
+    → Reports blocks chosen ss None → IsReport form given blocks chosen names notes a
+legal_report form given text ss names notes a blocks chosen fits is made =
+    IsReport.legal made.0 (by form (fits made.0) (subst (λ l. AnswersCases form text notes (l ++ map (bare_summary CaseEnd.Missing) names) a) (made.1 made.0) is))
+  where
+    by : (form : ReportForm) → IsTextFor form given chosen text → AnswersCases form text notes (summaries_of chosen names) a
+        → AnswersCases form (body_of form given chosen) notes (summaries_of chosen names) a
+    by ReportForm.Text same is = subst (λ t. AnswersCases ReportForm.Text t notes (summaries_of chosen names) a) same is
+    by ReportForm.Csv same is = is
+    by (ReportForm.Junit suite) same is = is
+    by ReportForm.Html same is = subst (λ t. AnswersCases ReportForm.Html t notes (summaries_of chosen names) a) same is
+    by ReportForm.Summary same is = is

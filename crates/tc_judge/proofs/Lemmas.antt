@@ -1,23 +1,13 @@
 -- The lemmas of this crate that others cite.
-use Rattle.std.proofs.Common.{ℕ, ◌≡◌, ◌≢◌, ◌≤◌, ◌+◌, ◌-◌, ◌^◌, ◌∙◌, true, false, None, Some, Option, List, [], ◌∷◌, ◌++◌, length, reverse, ap, sym, subst, append_assoc, arith, Bool, refl, suc, All}
-use Rattle.std.specs.Prelude.{is_some, min}
-use Rattle.std.proofs.Math.Nat.{min-eq_left}
-use Rattle.std.proofs.lemmas.List.{Concat.flat_map-append, append-nil, length-append, reverse-append}
+use Rattle.std.{proofs.{Common.{ℕ, ◌≡◌, ◌≢◌, ◌≤◌, ◌+◌, ◌-◌, ◌^◌, ◌∙◌, true, false, None, Some, Option, List, [], ◌∷◌, ◌++◌, length, reverse, ap, sym, subst, append_assoc, arith, Bool, refl, suc, All}, Math.Nat.min-eq_left, lemmas.{List.{Concat.flat_map-append, append-nil, length-append, reverse-append, Elements.{All-head, All-tail, All-cons, All-nil}}, Bool.false≢true}}, specs.{Prelude.{is_some, min}, List.{flat_map, AllZip}}}
 use Rattle.tc_rules.specs.Prelude.{Entry, Reply, answer, IsLegal, IsReplyOf, Kept, StandsFor, TakesIn}
-use Rattle.tc_blocks.specs.declared.line.Line.{Line}
-use Rattle.tc_blocks.specs.Prelude.{entries_of, entry_in, LinesAreLegal}
-use Rattle.tc_judge.specs.{Inside.IsOtherReply, Inside.IsPlayedTo, declared.playing.Difference.Difference, Check.AreAllLegal, Check.Checks, Check.IsIllegalLine, Check.IsLegalBlock, Check.legal_line, Inside.each}
-use Rattle.std.specs.List.{flat_map, AllZip}
-use Rattle.std.proofs.lemmas.{Bool.false≢true, List.Elements.All-head, List.Elements.All-tail}
-use Rattle.tc_blocks.specs.declared.block.Block.{Block}
-use Rattle.std.proofs.lemmas.List.Elements.{All-cons, All-nil}
+use Rattle.tc_blocks.specs.{declared.{line.Line.Line, block.Block.Block}, Prelude.{entries_of, entry_in, LinesAreLegal}}
+use Rattle.tc_judge.specs.{Inside.{IsOtherReply, IsPlayedTo, each}, declared.playing.Difference.Difference, Check.{AreAllLegal, Checks, IsIllegalLine, IsLegalBlock, legal_line}}
 use Rattle.tc_entry.specs.declared.limits.TheConstants.{BEHAVIOURS}
 use Rattle.tc_exec.specs.declared.test_case.Case.{Case}
 use Rattle.tc_reader.specs.Prelude.{CampaignView, IsCase, Word}
 use Rattle.tc_step.specs.Prelude.{ScriptView}
-use Rattle.tc_answer.specs.Prelude.{CaseView, scripts_of}
-use Rattle.tc_answer.specs.Inside.{IsCaseOf}
-use Rattle.tc_answer.specs.declared.reply.Answer.{Answer}
+use Rattle.tc_answer.specs.{Prelude.{CaseView, scripts_of}, Inside.IsCaseOf, declared.reply.Answer.Answer}
 
 -- ---- blocks, played line by line
 

@@ -1,17 +1,12 @@
 -- Test cases that have passed, by the names that blocks have.
-use Rattle.std.proofs.Common.{ℕ, ◌≡◌, ◌∙◌, ◌&&◌, ◌||◌, ◌↔◌, not, All, Bool, true, false, List, [], ◌∷◌, ◌++◌, if◌then◌else◌, filter, ap, ap₂, refl, sym, subst}
-use Rattle.std.proofs.lemmas.List.{Elements.All-cons, Elements.All-head, Elements.All-nil, Elements.All-tail, Folds.list_any-append}
-use Rattle.std.specs.List.{AllZip, list_any}
+use Rattle.std.{proofs.{Common.{ℕ, ◌≡◌, ◌∙◌, ◌&&◌, ◌||◌, ◌↔◌, not, All, Bool, true, false, List, [], ◌∷◌, ◌++◌, if◌then◌else◌, filter, ap, ap₂, refl, sym, subst}, lemmas.List.{Elements.{All-cons, All-head, All-nil, All-tail}, Folds.list_any-append}}, specs.List.{AllZip, list_any}}
 use Rattle.tc_exec.specs.declared.test_case.Case.{Case}
 use Rattle.tc_command.specs.declared.task.Choice.{Choice}
 use Rattle.tc_blocks.specs.declared.block.Block.{Block}
 use Rattle.tc_reader.specs.Prelude.{is_text, CampaignView, IsCase, Word, add, among}
 use Rattle.tc_step.specs.Prelude.{ScriptView}
-use Rattle.tc_answer.specs.Prelude.{AreChosen, blocks_part, script_part, CaseView}
-use Rattle.tc_answer.specs.Inside.{AreReady, AreReadyAs, IsCaseOf, script_name}
-use Rattle.tc_answer.proofs.Lemmas.Chosen.{all_filtered, distinct_filtered, or_left, or_right, zip_with}
-use Rattle.tc_judge.specs.{Inside.AreJudgedIn, Inside.AreReadyToRun, Inside.HasSeen, Inside.IsJudgedBlock, Inside.IsJudgement, Inside.KeepsNothing, Inside.fails, Inside.judges_legal, Inside.passes, Inside.shows_passed, Inside.with_failed, Compared.AreUnpassed, Compared.HasPassed, Compared.ShowsPassed, Check.counting, Check.is_passing, declared.judged.Judged.Judged, declared.kept.Nothing.Nothing, declared.passed.Seen.Seen, declared.playing.Judgement.Judgement}
-use Rattle.tc_judge.proofs.{Counting.same_word, Judging.any_named, Lemmas.no_difference}
+use Rattle.tc_answer.{specs.{Prelude.{AreChosen, blocks_part, script_part, CaseView}, Inside.{AreReady, AreReadyAs, IsCaseOf, script_name}}, proofs.Lemmas.Chosen.{all_filtered, distinct_filtered, or_left, or_right, zip_with}}
+use Rattle.tc_judge.{specs.{Inside.{AreJudgedIn, AreReadyToRun, HasSeen, IsJudgedBlock, IsJudgement, KeepsNothing, fails, judges_legal, passes, shows_passed, with_failed}, Compared.{AreUnpassed, HasPassed}, Check.{IsLegalBlock, counting, is_passing}, declared.{judged.Judged.Judged, kept.Nothing.Nothing, passed.Seen.Seen, playing.Judgement.Judgement}}, proofs.{Counting.same_word, Judging.any_named, Lemmas.no_difference}}
 
 -- ---- names
 
@@ -67,6 +62,10 @@ seen_more js j s t names failed seen n = (
     by false = among_added n j.name s.failed.keys
 
 -- ---- what they show
+
+-- it is legal, and its verdict is none or pass
+abbrev ShowsPassed : Block → Type 0
+ShowsPassed b = IsLegalBlock b × (is_passing b.verdict ≡ true)
 
 -- a block that is judged legal and has such a verdict shows that its test case has passed
 shows : (b : Block) (j : Judged Nothing) → IsJudgedBlock KeepsNothing b j → passes j ≡ true → ShowsPassed b

@@ -1,14 +1,10 @@
 -- What `check` prints for histories and evidence, and of them the chosen.
-use Rattle.std.specs.Prelude.{ℕ, ◌≡◌, ◌≢◌, ◌⊎◌, ◌+◌, All, Bool, true, false, if◌then◌else◌, List, [], ◌∷◌, ◌++◌, length, reverse, codes, MatchResult, Option, Result, Err, ◌==◌, ◌&&◌, fold, not}
-use Rattle.std.specs.Fmt.{decimal}
+use Rattle.std.specs.{Prelude.{ℕ, ◌≡◌, ◌≢◌, ◌⊎◌, ◌+◌, All, Bool, true, false, if◌then◌else◌, List, [], ◌∷◌, ◌++◌, length, reverse, codes, MatchResult, Option, Result, Err, ◌==◌, ◌&&◌, fold, not, IfSome}, Fmt.decimal}
 use Rattle.tc_rules.specs.Prelude.{Verdict, name_of, Entry, Reply, answer}
 use Rattle.tc_text.specs.Prelude.{reply_text}
-use Rattle.tc_blocks.specs.declared.{block.Block.Block, line.Line.Line}
-use Rattle.tc_blocks.specs.Prelude.{entries_of, LinesAreLegal, overall_of, AreEvidence, HoldsOfBlocks, IsFault, IsHeader}
+use Rattle.tc_blocks.specs.{declared.{block.Block.Block, limit.Limit.Limit, line.Line.Line}, Prelude.{entries_of, LinesAreLegal, overall_of, AreEvidence, IsPastLimit, HoldsOfBlocks, IsFault, IsHeader, IsReadIn}}
 use Rattle.tc_command.specs.declared.task.Choice.{Choice}
-use Rattle.tc_stream.specs.Prelude.{IsRead}
-use Rattle.tc_answer.specs.Prelude.{have_names, IsUnread, RefusesText, is_asked}
-use Rattle.tc_answer.specs.declared.{fault.RunFault.RunFault, reply.Answer.Answer}
+use Rattle.tc_answer.specs.{Prelude.{have_names, RefusesText, is_asked}, declared.{fault.RunFault.RunFault, limits.TheConstants.HISTORY_LIMIT, reply.Answer.Answer}}
 use Rattle.tc_report.specs.Prelude.{verdict_status}
 use Rattle.tc_reader.specs.Prelude.{is_text, Word}
 
@@ -34,9 +30,9 @@ is_passing v = verdict_status v == 0
 abbrev pub is_chosen : Choice → Block → Bool
 is_chosen choice b = is_asked choice.only.items b.header.name && not (choice.failed && is_passing b.verdict)
 
--- the choice leaves out no block
+-- the choice leaves out no block, and takes no long text
 abbrev pub ChoosesEach : Choice → Type 0
-ChoosesEach choice = (choice.only.items ≡ []) × (choice.failed ≡ false) × (choice.last ≡ false)
+ChoosesEach choice = (choice.only.items ≡ []) × (choice.failed ≡ false) × (choice.last ≡ false) × (choice.long ≡ false)
 
 -- the line of a legal block: its name, how many entries it has, its verdict
 abbrev pub legal_line : List ℕ → ℕ → Verdict → List ℕ
@@ -51,10 +47,6 @@ pub record IsLegalBlock (b : Block) : Type 0 where
   pub replies : LinesAreLegal b.header.behaviours b.lines
   pub verdict : b.verdict ≡ overall_of b.lines
 
--- the line of a legal block
-abbrev pub IsLegalLine : Block → List ℕ → Type 0
-IsLegalLine b line = IsLegalBlock b × (line ≡ legal_line b.header.name (length (entries_of b.lines)) b.verdict)
-
 -- the line of a block that is not legal: its first entry with another reply, or, if there is none, its verdict
 pub data IsIllegalLine (b : Block) (line : List ℕ) : Type 0 where
   other_reply : (before behind : List Line) (e : Entry) (reply : Reply) → b.lines ≡ before ++ Line.Entry e ∷ behind → LinesAreLegal b.header.behaviours before
@@ -67,7 +59,8 @@ pub data IsIllegalLine (b : Block) (line : List ℕ) : Type 0 where
 -- legal ones only the chosen have a line
 pub data Checks (is_chosen : Block → Bool) : List Block → List ℕ → Bool → Type 0 where
   none : Checks is_chosen [] [] true
-  goes_on : (b : Block) (rest : List Block) (line out : List ℕ) (legal : Bool) → IsLegalLine b line
+  goes_on : (b : Block) (rest : List Block) (line out : List ℕ) (legal : Bool)
+      → IsLegalBlock b × (line ≡ legal_line b.header.name (length (entries_of b.lines)) b.verdict)
       → Checks is_chosen rest out legal → Checks is_chosen (b ∷ rest) ((if is_chosen b then line else []) ++ out) legal
   stops : (b : Block) (rest : List Block) (line : List ℕ) → IsIllegalLine b line → Checks is_chosen (b ∷ rest) line false
 
@@ -107,7 +100,18 @@ IsSilent Is a = Is a.out a.status × (a.told ≡ [])
 abbrev pub IsMadeOfBlocks : Choice → List ℕ → (Answer → Type 0) → Result Answer RunFault → Type 0
 IsMadeOfBlocks choice text Is made = MatchResult made (λ a. Is a × NameBlocks choice.last choice.only.items text) (RefusesBlocks choice.last choice.only.items text)
 
+-- how many bytes histories may have: all together, or, if they may be long, each block
+abbrev pub history_limit : Bool → Limit
+history_limit long = if long then Limit.Blocks HISTORY_LIMIT else Limit.Whole HISTORY_LIMIT
+
+-- the input was not read whole: it has more bytes than it may have, or the device failed, or memory ran out
+abbrev pub IsUnreadIn : Limit → Option (List ℕ) → RunFault → Type 0
+IsUnreadIn limit input RunFault.TooLong = IfSome input (IsPastLimit limit)
+IsUnreadIn limit input RunFault.Read = Unit {0}
+IsUnreadIn limit input RunFault.NoMemory = Unit {0}
+IsUnreadIn limit input fault = ⊥
+
 -- the input was read, and this is made of its text; or it was not, and the fault says why
-abbrev pub IsMadeOfInput : ℕ → Option (List ℕ) → (List ℕ → Result Answer RunFault → Type 0) → Result Answer RunFault → Type 0
+abbrev pub IsMadeOfInput : Limit → Option (List ℕ) → (List ℕ → Result Answer RunFault → Type 0) → Result Answer RunFault → Type 0
 IsMadeOfInput limit input Made made =
-    IsRead limit input (λ text. Made text made) ⊎ ((fault : RunFault) × (made ≡ Err fault) × IsUnread limit input fault)
+    IsReadIn limit input (λ text. Made text made) ⊎ ((fault : RunFault) × (made ≡ Err fault) × IsUnreadIn limit input fault)

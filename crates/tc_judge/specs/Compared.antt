@@ -1,15 +1,12 @@
 -- Histories and evidence after their script in one text, and what of them is no course of its test cases.
-use Rattle.std.specs.Prelude.{ℕ, ◌≡◌, ◌==◌, ◌≤◌, nat_lt, Bool, true, false, if◌then◌else◌, Option, Some, None, not, List, [], ◌∷◌, ◌++◌, codes, filter, length, map, position, reverse, slice_get, ◌↔◌, All}
-use Rattle.std.specs.{List.flat_map, List.list_any, Option.option_map_or}
+use Rattle.std.specs.{Prelude.{ℕ, ◌≡◌, ◌==◌, ◌≤◌, nat_lt, Bool, true, false, if◌then◌else◌, Option, Some, None, not, List, [], ◌∷◌, ◌++◌, codes, filter, length, map, position, reverse, slice_get, ◌↔◌, All}, List.{flat_map, list_any}, Option.option_map_or}
 use Rattle.tc_command.specs.declared.task.{Choice.Choice, ReportForm.ReportForm}
-use Rattle.tc_answer.specs.declared.{fault.RunFault.RunFault, reply.Answer.Answer}
-use Rattle.tc_blocks.specs.declared.block.Block.{Block}
-use Rattle.tc_blocks.specs.Prelude.{entries_of, AreEvidence, HoldsOfBlocks}
+use Rattle.tc_answer.specs.{declared.{fault.RunFault.RunFault, reply.Answer.Answer}, Prelude.{AreChosen, RefusesChoice, CaseView, scripts_of, script_part, blocks_part}}
+use Rattle.tc_blocks.specs.{declared.block.Block.Block, Prelude.{entries_of, AreEvidence, HoldsOfBlocks}}
 use Rattle.tc_course.specs.Prelude.{IsWitness}
 use Rattle.tc_step.specs.Prelude.{ScriptView}
 use Rattle.tc_reader.specs.Prelude.{is_text, CampaignView, Word}
-use Rattle.tc_answer.specs.Prelude.{AreChosen, RefusesChoice, CaseView, scripts_of, script_part, blocks_part}
-use Rattle.tc_judge.specs.{Check.IsChecked, Check.RefusesHistory, Check.counting, Report.IsReport, declared.compare.Wrong.Wrong, Check.IsLegalBlock, Check.is_passing}
+use Rattle.tc_judge.specs.{Check.{IsChecked, RefusesHistory, counting, IsLegalBlock, is_passing}, Report.IsReport, declared.compare.Wrong.Wrong}
 
 -- the place of the test case of this name in the script
 abbrev pub place_in : CampaignView → Word → Option ℕ
@@ -103,14 +100,11 @@ pub record IsReportedAgainst (form : ReportForm) (choice : Choice) (text : List 
 
 -- ---- the test cases that the blocks show to have passed
 
--- the block shows its test case to have passed: it is legal, and its verdict is none or pass
-abbrev pub ShowsPassed : Block → Type 0
-ShowsPassed b = IsLegalBlock b × (is_passing b.verdict ≡ true)
-
--- a block has this name, and each block of this name shows its test case to have passed
+-- a block has this name, and each block of this name shows its test case to have passed: it is legal, and its verdict is none
+-- or pass
 pub record HasPassed (blocks : List Block) (name : Word) : Type 0 where
   pub some : has_block_named blocks name ≡ true
-  pub each : All (λ b. is_text name b.header.name ≡ true → ShowsPassed b) blocks
+  pub each : All (λ b. is_text name b.header.name ≡ true → IsLegalBlock b × (is_passing b.verdict ≡ true)) blocks
 
 -- the text is a script, and histories and evidence after it; these are the chosen test cases of the script but those that
 -- have passed by the blocks that count

@@ -1,20 +1,17 @@
 -- What the functions inside of this crate say, which no clause of the program names.
-use Rattle.std.specs.Prelude.{ℕ, ◌≡◌, ◌≢◌, ◌&&◌, ◌≤◌, ◌+◌, nat_lt, slice_get, slice_index_or, All, Bool, true, false, Option, Some, None, List, [], ◌∷◌, ◌++◌, length, map, reverse, take, codes, if◌then◌else◌, not}
-use Rattle.std.specs.List.{AllZip, find, list_any}
+use Rattle.std.specs.{Prelude.{ℕ, ◌≡◌, ◌≢◌, ◌&&◌, ◌≤◌, ◌+◌, ◌||◌, filter, is_some, nat_lt, slice_get, slice_index_or, All, Bool, true, false, Option, Some, None, List, [], ◌∷◌, ◌++◌, length, map, reverse, take, codes, if◌then◌else◌, not}, List.{AllZip, find, flat_map, list_any}}
 use Rattle.tc_entry.specs.declared.limits.TheConstants.{BEHAVIOURS}
 use Rattle.tc_rules.specs.Prelude.{Verdict, Entry, Kept, StandsFor, answer, name_of, Reply}
 use Rattle.tc_text.specs.Prelude.{reply_text}
 use Rattle.tc_step.specs.Prelude.{ScriptView}
 use Rattle.tc_reader.specs.Prelude.{is_text, Word, add, among, has_twice, CampaignView}
-use Rattle.tc_blocks.specs.Prelude.{entries_of, entry_in, HoldsOfBlocks, LinesAreLegal, history_of, overall_of}
+use Rattle.tc_blocks.specs.Prelude.{entries_of, HoldsOfBlocks, LinesAreLegal, overall_of}
 use Rattle.tc_blocks.specs.declared.{block.Block.Block, header.Header.Header, line.Line.Line as BlockLine}
-use Rattle.tc_report.specs.Prelude.{block_summary}
-use Rattle.tc_report.specs.declared.summary.Summary.{Summary}
+use Rattle.tc_report.specs.{Prelude.{block_summary, blocks_report, replayed_text, said_in, verdicts_closing}, declared.summary.Summary.Summary}
 use Rattle.tc_exec.specs.declared.test_case.Case.{Case}
 use Rattle.tc_command.specs.declared.task.{Choice.Choice, ReportForm.ReportForm}
-use Rattle.tc_answer.specs.Prelude.{is_asked, CaseView}
-use Rattle.tc_answer.specs.Inside.{AreReadyAs, place_text, IsCaseOf}
-use Rattle.tc_judge.specs.{Check.AreAllLegal, Check.Checks, Check.IsLegalBlock, Check.legal_line, Compared.AreJudged, Compared.IsCompared, Compared.IsJudged, Compared.has_block_named, Compared.has_later, Compared.missing, Compared.AreToRun, Check.counting, Check.is_passing, Check.put, declared.compare.Comparing.Comparing, declared.compare.Comparison.Comparison, declared.compare.Wrong.Wrong, declared.judged.Judged.Judged, declared.judged.Recorded.Recorded, declared.kept.Nothing.Nothing, declared.kept.Whole.Whole, declared.passed.Seen.Seen, declared.playing.Difference.Difference, declared.playing.Judgement.Judgement, declared.playing.Playing.Playing}
+use Rattle.tc_answer.specs.{Prelude.{have_names, is_asked, CaseView}, Inside.{AreReadyAs, place_text, IsCaseOf}}
+use Rattle.tc_judge.specs.{Check.{AreAllLegal, Checks, IsLegalBlock, legal_line, counting, is_passing, put}, Compared.{AreJudged, IsCompared, IsJudged, has_block_named, has_later, missing, AreToRun}, declared.{compare.{Comparing.Comparing, Comparison.Comparison, Wrong.Wrong}, judged.{Judged.Judged, Recorded.Recorded}, kept.{Nothing.Nothing, Whole.Whole}, passed.Seen.Seen, playing.{Difference.Difference, Judgement.Judgement, Playing.Playing}}}
 
 -- the name of a block
 abbrev pub block_name : Block → Word
@@ -76,17 +73,11 @@ IsPlayedTo n first_line lines k entries (Some d) = IsOtherReply n first_line lin
 abbrev pub IsPlayed : ℕ → Header → List BlockLine → Playing → Type 0
 IsPlayed first_line h lines p = (p.header ≡ h) × IsPlayedTo h.behaviours first_line lines p.state p.entries p.difference
 
--- the entry of the line, if it is one and entries are recorded
-abbrev pub recorded_in : Bool → BlockLine → List Entry
-recorded_in records l = if records then entry_in l else []
-
--- the entries among the lines, if they are recorded
-abbrev pub recorded : Bool → List BlockLine → List Entry
-recorded records lines = if records then entries_of lines else []
-
--- the same, and the entries are kept, if they are recorded
+-- the same, and the entries and what is said next to them are recorded, if it is asked for; otherwise nothing is
 abbrev pub IsRecorded : Bool → ℕ → Header → List BlockLine → Recorded → Type 0
-IsRecorded records first_line h lines r = IsPlayed first_line h lines r.playing × (r.entries.items ≡ recorded records lines)
+IsRecorded records first_line h lines r =
+    IsPlayed first_line h lines r.playing × (records ≡ true → (r.entries.items ≡ entries_of lines) × (r.said ≡ said_in lines))
+    × (records ≡ false → (r.entries.items ≡ []) × (r.said ≡ said_in []))
 
 -- the line with this number was played after those of a block, if it is the next
 abbrev pub PlaysNext : ℕ → BlockLine → Playing → Playing → Type 0
@@ -105,9 +96,9 @@ KeepsNothing b kept = Unit {0}
 
 -- what is kept of a block for its report: what the forms say of it, if it is legal
 abbrev pub IsSummaryOf : Block → Summary → Type 0
-IsSummaryOf b s = IsLegalBlock b → s ≡ block_summary (history_of b)
+IsSummaryOf b s = IsLegalBlock b → s ≡ block_summary b
 
--- and what is kept of it next to a script: what is said of it, and its entries
+-- and what is kept of it next to a script, or for its text report: what is said of it, and its entries
 pub record IsWholeOfBlock {S : Type 0} (says : Block → S → Type 0) (b : Block) (w : Whole S) : Type 0 where
   pub said : says b w.said
   pub behaviours : w.behaviours ≡ b.header.behaviours
@@ -136,6 +127,16 @@ PutsNext old j names new = (names ≡ map judged_name new) × (length names ≡ 
 abbrev pub first_illegal : {K : Type 0} → List (Judged K) → Option Judgement
 first_illegal js = find (λ judgement. not (judges_legal judgement)) (map (λ j. j.judgement) js)
 
+-- of judged blocks one is not legal, or each pattern of the choice matches the name of one
+abbrev pub names_found : {K : Type 0} → Choice → List (Judged K) → Bool
+names_found choice js = is_some (first_illegal js) || have_names judged_name choice.only.items js
+
+-- then these are the chosen ones, and this is the judgement of the first of all that is not legal
+pub record ArePicked {K : Type 0} (choice : Choice) (js chosen : List (Judged K)) (illegal : Option Judgement) : Type 0 where
+  pub picked : chosen ≡ filter (λ j. is_picked choice.only.items choice.failed j.name j.verdict) js
+  pub first : illegal ≡ first_illegal js
+  pub found : names_found choice js ≡ true
+
 -- the blocks that are picked by name and verdict
 abbrev pub picked_by : (Word → Verdict → Bool) → Block → Bool
 picked_by picks b = picks (block_name b) b.verdict
@@ -158,9 +159,20 @@ printed picks (j ∷ js) = if judges_legal j.judgement then line_by picks j ++ p
 abbrev pub summary_by : {K : Type 0} → (K → Summary) → Judged K → Summary
 summary_by summary j = summary j.kept
 
--- the form is not made of the text, or is made of this one
-abbrev pub IsTextFor : ReportForm → List ℕ → List ℕ → Type 0
-IsTextFor form given text = form ≡ ReportForm.Html → text ≡ given
+-- the form of these chosen blocks is not made of a text, or is made of this one: the page of that of all blocks, the text report
+-- of itself
+abbrev pub IsTextFor : ReportForm → List ℕ → List Block → List ℕ → Type 0
+IsTextFor ReportForm.Html given chosen text = text ≡ given
+IsTextFor ReportForm.Text given chosen text = text ≡ blocks_report chosen
+IsTextFor form given chosen text = Unit {0}
+
+-- what the text report says of a judged block
+abbrev pub judged_report : Judged (Whole Summary) → List ℕ
+judged_report j = replayed_text j.kept.said j.kept.behaviours j.kept.entries.items j.verdict
+
+-- the text report of judged blocks
+abbrev pub judged_text : List (Judged (Whole Summary)) → List ℕ
+judged_text js = flat_map judged_report js ++ verdicts_closing (map (λ j. j.verdict) js)
 
 -- this is the judgement of the first of these blocks that is not legal, if there is one
 abbrev pub IsFirstIllegal : List Block → Option Judgement → Type 0
@@ -169,7 +181,13 @@ IsFirstIllegal blocks (Some judgement) = Checks (λ b. false) blocks (illegal_li
 
 -- and these are the test cases of the chosen ones, if there is none
 abbrev pub Reports : List Block → List Block → List Summary → Option Judgement → Type 0
-Reports blocks chosen ss illegal = IsFirstIllegal blocks illegal × (AreAllLegal blocks → ss ≡ map (λ b. block_summary (history_of b)) chosen)
+Reports blocks chosen ss illegal = IsFirstIllegal blocks illegal × (AreAllLegal blocks → ss ≡ map block_summary chosen)
+
+-- these judged blocks are chosen ones, all legal if all blocks are, and this is the judgement of the first that is not
+pub record AreChosenBlocks {K : Type 0} (keeps : Block → K → Type 0) (blocks chosen : List Block) (js : List (Judged K)) (illegal : Option Judgement) : Type 0 where
+  pub each : AllZip (IsJudgedBlock keeps) chosen js
+  pub first : IsFirstIllegal blocks illegal
+  pub legal : AreAllLegal blocks → AreAllLegal chosen
 
 -- the test cases that a run is asked for
 abbrev pub AreReadyToRun : Choice → List ℕ → List (Case ScriptView) → Type 0

@@ -1,4 +1,2 @@
 -- What other crates cite of these definitions.
-pub use Rattle.tc_judge.specs.Check.{ChoosesEach, IsChecked, IsMadeOfBlocks, IsMadeOfInput, IsSilent, RefusesBlocks, counting, is_chosen, legal_line}
-pub use Rattle.tc_judge.specs.Compared.{AreToRun, IsCheckedAgainst, IsReportedAgainst, RefusesAgainst, RefusesRun}
-pub use Rattle.tc_judge.specs.Report.{AnswersCases, IsReported}
+pub use Rattle.tc_judge.specs.{Check.{ChoosesEach, IsChecked, IsMadeOfBlocks, IsMadeOfInput, IsSilent, IsUnreadIn, RefusesBlocks, counting, history_limit, is_chosen, legal_line}, Compared.{AreToRun, IsCheckedAgainst, IsReportedAgainst, RefusesAgainst, RefusesRun}, Report.{AnswersCases, IsReported, is_of_judged}}

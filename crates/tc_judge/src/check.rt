@@ -1,7 +1,6 @@
 //! The subcommand `check`.
 ghost use Rattle.std.specs.Prelude.{◌≡◌, List, ℕ, if◌then◌else◌, is_some};
-ghost use Rattle.tc_answer.specs.declared.limits.TheConstants.{HISTORY_LIMIT};
-ghost use Rattle.tc_judge.specs.{Check.IsChecked, Check.IsMadeOfBlocks, Check.IsMadeOfInput, Check.IsSilent, Inside.AreJudgedIn, Inside.first_illegal as spec_first, Check.is_chosen};
+ghost use Rattle.tc_judge.specs.{Check.IsChecked, Check.IsMadeOfBlocks, Check.IsMadeOfInput, Check.IsSilent, Check.history_limit, Inside.AreJudgedIn, Inside.first_illegal as spec_first, Check.is_chosen};
 
 use crate::judged::{Judged, first_illegal, judge_input, judge_text};
 use crate::kept::{Keeps, Nothing};
@@ -54,9 +53,9 @@ pub fn check_input<R: Read>(
     choice: &Choice,
     reader: &mut R,
 ) -> Result<Answer, RunFault>
-    ensures { IsMadeOfInput HISTORY_LIMIT (R.remaining reader.old)
+    ensures { IsMadeOfInput (history_limit choice.now.long) (R.remaining reader.old)
         (λ text made. IsMadeOfBlocks choice.now text (IsSilent (IsChecked choice.now.last (is_chosen choice.now) text)) made) result }
 {
-    let blocks = judge_input::<R, Nothing>(alloc, choice.last, reader)?;
+    let blocks = judge_input::<R, Nothing>(alloc, choice, reader)?;
     checked(alloc, choice, blocks.as_slice())
 }

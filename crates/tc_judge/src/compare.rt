@@ -13,7 +13,8 @@ use crate::judged::{Judged, first_illegal, judge_text};
 use crate::kept::{Nothing, Says, Whole};
 use crate::lines::printed_lines;
 use crate::passed::add_name;
-use crate::report::{noted_status, report_blocks};
+use crate::report::noted_status;
+use crate::text::Answers;
 use indexmap::IndexSet;
 use std::alloc::Global;
 use tc_answer::{Answer, RunFault, chosen_cases, split_script};
@@ -300,7 +301,7 @@ pub fn report_compared(
     let blocks = judge_text::<Whole<Summary>>(alloc, choice.last, rest)?;
     let illegal = first_illegal(blocks.as_slice());
     let Comparison { notes, missing } = compare(alloc, ready, blocks.as_slice())?;
-    let answer = report_blocks(
+    let answer = Whole::<Summary>::answer(
         alloc,
         form,
         rest,

@@ -1,11 +1,10 @@
 //! The blocks of a text, each of which is judged: what all that reads histories and evidence is made of.
-ghost use Rattle.std.specs.Prelude.{◌≡◌, ◌<◌, ◌++◌, ◌⊎◌, IfOk, IfErr, IfSome, OnOk, false, length, map, position, true};
+ghost use Rattle.std.specs.Prelude.{◌≡◌, ◌<◌, ◌++◌, ◌∷◌, [], ◌⊎◌, IfOk, IfErr, IfSome, OnOk, false, length, map, position, true};
 ghost use Rattle.std.specs.List.{AllZip};
-ghost use Rattle.tc_stream.specs.Prelude.{IsRead};
 ghost use Rattle.tc_reader.specs.Prelude.{is_text};
-ghost use Rattle.tc_answer.specs.Prelude.{IsUnread};
-ghost use Rattle.tc_answer.specs.declared.limits.TheConstants.{HISTORY_LIMIT};
-ghost use Rattle.tc_judge.specs.{Check.RefusesHistory, Inside.AreJudgedIn, Inside.IsJudgedBlock, Inside.IsRecorded, Inside.PutsNext, Inside.first_illegal as spec_first, Inside.judged_name, Inside.recorded_in, Check.that_count};
+ghost use Rattle.tc_blocks.specs.Prelude.{IsReadIn, entry_in, most_of};
+ghost use Rattle.tc_report.specs.Prelude.{said_with};
+ghost use Rattle.tc_judge.specs.{Check.IsUnreadIn, Check.RefusesHistory, Check.history_limit, Inside.AreJudgedIn, Inside.IsJudgedBlock, Inside.IsRecorded, Inside.PutsNext, Inside.first_illegal as spec_first, Inside.judged_name, Check.that_count};
 
 use crate::kept::Keeps;
 use crate::passed::add_name;
@@ -14,8 +13,10 @@ use indexmap::IndexSet;
 use std::alloc::Global;
 use std::io::Read;
 use tc_answer::{HISTORY_LIMIT, RunFault, of_input};
-use tc_blocks::{Header, Line, TakesEvidence, read_evidence_from, read_evidence_into};
+use tc_blocks::{Header, Limit, Line, TakesEvidence, read_evidence_from, read_evidence_into};
+use tc_command::Choice;
 use tc_entry::Name;
+use tc_report::Said;
 use tc_rules::{Entry, NoMemory, Reply, Run, Verdict};
 use tc_text::ShortOp;
 
@@ -42,11 +43,12 @@ pub(crate) fn first_illegal<K: Drop>(blocks: &[Judged<K>]) -> Option<Judgement>
         .find(|judgement| !judgement.is_legal())
 }
 
-/// A block that is played as it is read, with its entries if they are asked for.
+/// A block that is played as it is read, with its entries and what it says next to them, if they are asked for.
 #[derive(Drop)]
 pub(crate) struct Recorded {
-    playing: Playing,
-    entries: Vec<Entry>,
+    pub(crate) playing: Playing,
+    pub(crate) entries: Vec<Entry>,
+    pub(crate) said: Said,
 }
 
 /// The blocks so far, each of which is judged.
@@ -56,15 +58,47 @@ pub(crate) struct Judging<K: Keeps + Drop> {
     blocks: Vec<Judged<K>>,
 }
 
-// Keeps the entry, if entries are asked for.
+// Keeps the entry, if entries are asked for; otherwise nothing.
 #[inline(always)]
 fn record<K: Keeps>(entries: &mut Vec<Entry>, entry: Entry) -> Result<(), NoMemory>
-    ensures { OnOk result (entries.new.items ≡ entries.old.items ++ recorded_in K.RECORDS (Line.Entry entry)) }
+    ensures { OnOk result ((K.RECORDS ≡ true → entries.new.items ≡ entries.old.items ++ entry ∷ [])
+        × (K.RECORDS ≡ false → entries.new.items ≡ entries.old.items)) }
 {
     if K::RECORDS {
         entries.push(entry)?;
     }
     Ok(())
+}
+
+// Keeps the line if it is an entry.
+fn keep_entry(entries: &mut Vec<Entry>, line: &Line) -> Result<(), NoMemory>
+    ensures { OnOk result (entries.new.items ≡ entries.old.items ++ entry_in line.now) }
+{
+    match line {
+        Line::Entry(entry) => {
+            entries.push(entry.copy())?;
+            Ok(())
+        }
+        Line::Named { .. } | Line::Remark { .. } | Line::Refused { .. } => Ok(()),
+    }
+}
+
+// Keeps the line, as an entry or as what is said after those so far, if entries are asked for; otherwise nothing.
+fn keep_line<K: Keeps>(
+    entries: &mut Vec<Entry>,
+    said: &mut Said,
+    line: Line,
+) -> Result<(), NoMemory>
+    ensures { OnOk result ((K.RECORDS ≡ true → (entries.new.items ≡ entries.old.items ++ entry_in line)
+        × (said.new ≡ said_with said.old (length entries.old.items) line))
+        × (K.RECORDS ≡ false → (entries.new.items ≡ entries.old.items) × (said.new ≡ said.old))) }
+{
+    if !K::RECORDS {
+        return Ok(());
+    }
+    let at = entries.len();
+    keep_entry(entries, &line)?;
+    said.take(at, line)
 }
 
 impl<K: Keeps + Drop> TakesEvidence for Judging<K> {
@@ -85,14 +119,13 @@ impl<K: Keeps + Drop> TakesEvidence for Judging<K> {
         Ok(Recorded {
             playing: Playing::new(alloc, header)?,
             entries: Vec::new(alloc),
+            said: Said::new(alloc),
         })
     }
 
     fn take(begun: &mut Recorded, line: usize, taken: Line) -> Result<(), NoMemory> {
-        match &taken {
-            Line::Entry(entry) => Self::take_entry(begun, line, entry.copy()),
-            Line::Named { .. } | Line::Remark { .. } | Line::Refused { .. } => Ok(()),
-        }
+        begun.playing.take(line, &taken)?;
+        keep_line::<K>(&mut begun.entries, &mut begun.said, taken)
     }
 
     fn take_entry(begun: &mut Recorded, line: usize, entry: Entry) -> Result<(), NoMemory> {
@@ -120,12 +153,13 @@ impl<K: Keeps + Drop> TakesEvidence for Judging<K> {
     }
 
     fn close(&mut self, begun: Recorded, line: usize, verdict: Verdict) -> Result<(), NoMemory> {
-        let Recorded { playing, entries } = begun;
-        let kept = K::keep(self.alloc, &playing, entries)?;
+        let name = begun.playing.name();
+        let judgement = begun.playing.judge(line, verdict);
+        let kept = K::keep(self.alloc, begun)?;
         self.blocks.push(Judged {
-            name: playing.name(),
+            name,
             verdict,
-            judgement: playing.judge(line, verdict),
+            judgement,
             kept,
         })?;
         Ok(())
@@ -204,16 +238,30 @@ fn judge_all<K: Keeps + Drop>(alloc: Global, text: &[u8]) -> Result<Vec<Judged<K
     Ok(blocks_of(judging))
 }
 
+// How many bytes histories may have: all together, or, if they may be long, each block.
+fn limit_of(long: bool) -> Limit
+    ensures is { result ≡ history_limit long }
+    ensures most { most_of result < usize.MAX }
+{
+    if long {
+        Limit::Blocks(HISTORY_LIMIT)
+    } else {
+        Limit::Whole(HISTORY_LIMIT)
+    }
+}
+
 // The same of the text of an input, of which only a part is in memory at a time; or why the input was not read.
 fn judge_all_input<R: Read, K: Keeps + Drop>(
     alloc: Global,
+    limit: Limit,
     reader: &mut R,
 ) -> Result<Vec<Judged<K>>, RunFault>
-    ensures judged { IfOk result (λ v. IsRead HISTORY_LIMIT (R.remaining reader.old) (λ text. AreJudgedIn K.keeps false text v.items)) }
-    ensures refused { IfErr result (λ fault. IsUnread HISTORY_LIMIT (R.remaining reader.old) fault
-        ⊎ IsRead HISTORY_LIMIT (R.remaining reader.old) (λ text. RefusesHistory text fault)) }
+    requires { most_of limit < usize.MAX }
+    ensures judged { IfOk result (λ v. IsReadIn limit (R.remaining reader.old) (λ text. AreJudgedIn K.keeps false text v.items)) }
+    ensures refused { IfErr result (λ fault. IsUnreadIn limit (R.remaining reader.old) fault
+        ⊎ IsReadIn limit (R.remaining reader.old) (λ text. RefusesHistory text fault)) }
 {
-    match read_evidence_from(alloc, reader, HISTORY_LIMIT) {
+    match read_evidence_from(alloc, reader, limit) {
         Ok(Ok(judging)) => Ok(blocks_of(judging)),
         Ok(Err(fault)) => Err(RunFault::from(fault)),
         Err(fault) => Err(of_input(fault)),
@@ -237,13 +285,13 @@ pub(crate) fn judge_text<K: Keeps + Drop>(
 /// The same of an input, of which only a part is in memory at a time; or why it was not read.
 pub(crate) fn judge_input<R: Read, K: Keeps + Drop>(
     alloc: Global,
-    last: bool,
+    choice: &Choice,
     reader: &mut R,
 ) -> Result<Vec<Judged<K>>, RunFault>
-    ensures judged { IfOk result (λ v. IsRead HISTORY_LIMIT (R.remaining reader.old) (λ text. AreJudgedIn K.keeps last text v.items)) }
-    ensures refused { IfErr result (λ fault. IsUnread HISTORY_LIMIT (R.remaining reader.old) fault
-        ⊎ IsRead HISTORY_LIMIT (R.remaining reader.old) (λ text. RefusesHistory text fault)) }
+    ensures judged { IfOk result (λ v. IsReadIn (history_limit choice.now.long) (R.remaining reader.old) (λ text. AreJudgedIn K.keeps choice.now.last text v.items)) }
+    ensures refused { IfErr result (λ fault. IsUnreadIn (history_limit choice.now.long) (R.remaining reader.old) fault
+        ⊎ IsReadIn (history_limit choice.now.long) (R.remaining reader.old) (λ text. RefusesHistory text fault)) }
 {
-    let blocks = judge_all_input::<R, K>(alloc, reader)?;
-    Ok(counted(alloc, last, blocks)?)
+    let blocks = judge_all_input::<R, K>(alloc, limit_of(choice.long), reader)?;
+    Ok(counted(alloc, choice.last, blocks)?)
 }

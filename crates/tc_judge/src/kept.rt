@@ -1,30 +1,28 @@
 //! What is kept of a block that is judged.
 ghost use Rattle.std.specs.Prelude.{◌≡◌, Bool, IfOk, false, true};
-ghost use Rattle.tc_blocks.specs.Prelude.{entries_of};
 ghost use Rattle.tc_blocks.specs.declared.block.Block.{Block};
 ghost use Rattle.tc_report.specs.declared.summary.Summary.{Summary};
-ghost use Rattle.tc_judge.specs.Inside.{IsPlayed, IsSummaryOf, IsWholeOfBlock, KeepsNothing, recorded};
+ghost use Rattle.tc_judge.specs.Inside.{IsRecorded, IsSummaryOf, IsWholeOfBlock, KeepsNothing};
 
-use crate::playing::Playing;
+use crate::judged::Recorded;
 use std::alloc::Global;
 use tc_entry::NoMemory;
 use tc_report::Summary;
 use tc_rules::Entry;
 
-/// What is said of a block that was played with its entries.
+/// What is said of a block that was played and recorded.
 pub(crate) trait Says: Sized {
     /// The value is what is said of the block.
     ghost says: { Block → Self → Type 0 };
 
     /// What is said of the block.
-    fn say(alloc: Global, playing: &Playing, entries: &[Entry]) -> Result<Self, NoMemory>
-        ensures { IfOk result (λ said. (b : Block) → IsPlayed b.first_line b.header b.lines playing.now
-            → entries.now ≡ entries_of b.lines → says b said) };
+    fn say(alloc: Global, recorded: &Recorded) -> Result<Self, NoMemory>
+        ensures { IfOk result (λ said. (b : Block) → IsRecorded true b.first_line b.header b.lines recorded.now → says b said) };
 }
 
 /// What is kept of a block besides its name, its verdict and its judgement.
 pub(crate) trait Keeps: Sized {
-    /// Whether it is made of the entries of the block.
+    /// Whether it is made of what is recorded.
     ghost RECORDS: { Bool };
 
     const RECORDS: bool;
@@ -32,10 +30,9 @@ pub(crate) trait Keeps: Sized {
     /// The value is what is kept of the block.
     ghost keeps: { Block → Self → Type 0 };
 
-    /// What is kept of a block that was played, with its entries if they are asked for.
-    fn keep(alloc: Global, playing: &Playing, entries: Vec<Entry>) -> Result<Self, NoMemory>
-        ensures { IfOk result (λ kept. (b : Block) → IsPlayed b.first_line b.header b.lines playing.now
-            → entries.items ≡ recorded RECORDS b.lines → keeps b kept) };
+    /// What is kept of a block that was played, and recorded if it is asked for.
+    fn keep(alloc: Global, recorded: Recorded) -> Result<Self, NoMemory>
+        ensures { IfOk result (λ kept. (b : Block) → IsRecorded RECORDS b.first_line b.header b.lines recorded → keeps b kept) };
 }
 
 /// What is kept has what the forms say of the block.
@@ -54,7 +51,7 @@ pub(crate) struct Nothing;
 impl Says for Nothing {
     ghost says = { KeepsNothing };
 
-    fn say(_alloc: Global, _playing: &Playing, _entries: &[Entry]) -> Result<Nothing, NoMemory> {
+    fn say(_alloc: Global, _recorded: &Recorded) -> Result<Nothing, NoMemory> {
         Ok(Nothing)
     }
 }
@@ -66,8 +63,8 @@ impl Keeps for Nothing {
 
     ghost keeps = { KeepsNothing };
 
-    fn keep(_alloc: Global, _playing: &Playing, entries: Vec<Entry>) -> Result<Nothing, NoMemory> {
-        drop(entries);
+    fn keep(_alloc: Global, recorded: Recorded) -> Result<Nothing, NoMemory> {
+        drop(recorded);
         Ok(Nothing)
     }
 }
@@ -75,8 +72,9 @@ impl Keeps for Nothing {
 impl Says for Summary {
     ghost says = { IsSummaryOf };
 
-    fn say(alloc: Global, playing: &Playing, entries: &[Entry]) -> Result<Summary, NoMemory> {
-        let summary = playing.summary(alloc, entries)?;
+    fn say(alloc: Global, recorded: &Recorded) -> Result<Summary, NoMemory> {
+        let entries = recorded.entries.as_slice();
+        let summary = recorded.playing.summary(alloc, entries, &recorded.said)?;
         Ok(summary)
     }
 }
@@ -88,8 +86,8 @@ impl Keeps for Summary {
 
     ghost keeps = { IsSummaryOf };
 
-    fn keep(alloc: Global, playing: &Playing, entries: Vec<Entry>) -> Result<Summary, NoMemory> {
-        let said = Summary::say(alloc, playing, entries.as_slice())?;
+    fn keep(alloc: Global, recorded: Recorded) -> Result<Summary, NoMemory> {
+        let said = Summary::say(alloc, &recorded)?;
         Ok(said)
     }
 }
@@ -117,12 +115,13 @@ impl<S: Says + Drop> Keeps for Whole<S> {
 
     ghost keeps = { IsWholeOfBlock S.says };
 
-    fn keep(alloc: Global, playing: &Playing, entries: Vec<Entry>) -> Result<Whole<S>, NoMemory> {
-        let said = S::say(alloc, playing, entries.as_slice())?;
+    fn keep(alloc: Global, recorded: Recorded) -> Result<Whole<S>, NoMemory> {
+        let said = S::say(alloc, &recorded)?;
+        let behaviours = recorded.playing.behaviours();
         Ok(Whole {
             said,
-            behaviours: playing.behaviours(),
-            entries,
+            behaviours,
+            entries: recorded.entries,
         })
     }
 }

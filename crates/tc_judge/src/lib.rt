@@ -9,9 +9,10 @@ mod lines;
 mod passed;
 mod playing;
 mod report;
+mod text;
 
 pub use check::{check_input, check_text};
 pub use compare::{compare_text, report_compared};
 pub use passed::cases_to_run;
 pub use playing::play_short;
-pub use report::{report_input, report_text};
+pub use report::{is_of_judged, report_input, report_text};

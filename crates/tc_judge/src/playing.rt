@@ -9,7 +9,7 @@ ghost use Rattle.tc_judge.specs.Inside.{IsPlayed, JudgesPlayed, PlaysNext, judge
 use std::alloc::Global;
 use tc_blocks::{Header, Line};
 use tc_entry::Name;
-use tc_report::{Summary, summary_of_state};
+use tc_report::{Said, Summary, summary_of_state};
 use tc_rules::{CaseState, Entry, NoMemory, Op, Reply, Run, Target, Verdict};
 use tc_text::ShortOp;
 
@@ -204,11 +204,17 @@ impl Playing {
         }
     }
 
-    /// What the forms say of the block with these entries, if each of its replies was the table's.
-    pub(crate) fn summary(&self, alloc: Global, entries: &[Entry]) -> Result<Summary, NoMemory>
-        ensures { StandsFor self.now.state (reverse entries.now) → IfOk result (λ s. s ≡ summary_of self.now.header.name entries.now) }
+    /// What the forms say of the block with these entries, next to which this is said, if each of its replies was the table's.
+    pub(crate) fn summary(
+        &self,
+        alloc: Global,
+        entries: &[Entry],
+        said: &Said,
+    ) -> Result<Summary, NoMemory>
+        ensures { StandsFor self.now.state (reverse entries.now)
+            → IfOk result (λ s. s ≡ summary_of self.now.header.name self.now.state.behaviours entries.now said.now) }
     {
-        summary_of_state(alloc, &self.header.name, &self.state, entries)
+        summary_of_state(alloc, &self.header.name, &self.state, entries, said)
     }
 
     /// What the table says of the block whose last line has this number, and which gives this verdict.

@@ -1,22 +1,22 @@
 //! The subcommand `report`.
-ghost use Rattle.std.specs.Prelude.{◌≡◌, ◌≢◌, ◌==◌, ◌++◌, List, ℕ, filter, IfOk, OnOk, if◌then◌else◌, length, map};
-ghost use Rattle.tc_answer.specs.declared.limits.TheConstants.{HISTORY_LIMIT};
+ghost use Rattle.std.specs.{Prelude.◌≡◌, Prelude.◌==◌, Prelude.◌++◌, Prelude.List, Prelude.ℕ, Prelude.[], Prelude.codes, Prelude.false, Prelude.filter, Prelude.IfErr, Prelude.IfOk, Prelude.OnOk, Prelude.if◌then◌else◌, Prelude.length, Prelude.map, Prelude.true};
 ghost use Rattle.tc_blocks.specs.declared.block.Block.{Block};
 ghost use Rattle.tc_report.specs.Prelude.{bare_summary as bare};
 ghost use Rattle.tc_report.specs.declared.results.CaseEnd.TheVariants.{Missing};
-ghost use Rattle.tc_judge.specs.{Check.IsMadeOfBlocks, Check.IsMadeOfInput, Inside.AreJudgedIn, Inside.IsSummaryOf, Inside.IsTextFor, Inside.Reports, Inside.illegal_line, Inside.is_picked as spec_picked, Inside.summary_by, Check.is_chosen, Report.AnswersCases, Report.IsForm, Report.IsReport, Report.IsReported, Report.unreported};
+ghost use Rattle.tc_judge.specs.{Check.AreAllLegal, Check.IsMadeOfBlocks, Check.IsMadeOfInput, Inside.AreJudgedIn, Inside.ArePicked, Inside.IsTextFor, Inside.Reports, Inside.illegal_line, Inside.is_picked as spec_picked, Inside.names_found, Inside.summary_by, Check.is_chosen, Report.AnswersCases, Report.IsForm, Report.IsReport, Report.IsReported, Check.history_limit, Report.is_of_judged as spec_judged};
 
 use crate::judged::{Judged, first_illegal, judge_input, judge_text};
-use crate::kept::Summarizes;
+use crate::kept::{Summarizes, Whole};
 use crate::lines::{append_illegal, is_picked, name_blocks};
 use crate::playing::Judgement;
+use crate::text::Answers;
 use std::alloc::Global;
 use std::io::Read;
 use tc_answer::{Answer, REFUSED, RunFault, html_page};
 use tc_command::{Choice, ReportForm, VERSION};
 use tc_entry::{Name, Pattern, Sequence};
 use tc_report::{
-    CaseEnd, Summary, bare_summary, csv_report, junit_report, summary_report, worst_status,
+    CaseEnd, Summary, Times, bare_summary, csv_report, junit_report, summary_report, worst_status,
 };
 use tc_rules::NoMemory;
 use tc_text::append_text;
@@ -28,6 +28,22 @@ fn picked<K: Drop>(blocks: Vec<Judged<K>>, only: &[Pattern], failed: bool) -> Ve
     let mut blocks = blocks;
     blocks.retain(|block| is_picked(only, failed, &block.name, block.verdict));
     blocks
+}
+
+// The chosen blocks, and the judgement of the first of all that is not legal; or some pattern matches the name of no block.
+fn pick<K: Drop>(
+    choice: &Choice,
+    blocks: Vec<Judged<K>>,
+) -> Result<(Vec<Judged<K>>, Option<Judgement>), RunFault>
+    ensures picked { IfOk result (λ r. ArePicked choice.now blocks.items r.0.items r.1) }
+    ensures lacking { IfErr result (λ fault. (fault ≡ RunFault.Only) × (names_found choice.now blocks.items ≡ false)) }
+{
+    let only = choice.only.as_slice();
+    let illegal = first_illegal(blocks.as_slice());
+    if !name_blocks(only, blocks.as_slice()) {
+        return Err(RunFault::Only);
+    }
+    Ok((picked(blocks, only, choice.failed), illegal))
 }
 
 // The test cases of the blocks.
@@ -55,8 +71,11 @@ fn form_text(
     ensures { IfOk result (λ v. IsForm form.now text.now cases.now v.items) }
 {
     match form {
+        ReportForm::Text => Ok(text.to_vec(alloc)?),
         ReportForm::Csv => csv_report(alloc, cases),
-        ReportForm::Junit(suite) => junit_report(alloc, VERSION, suite, cases),
+        ReportForm::Junit(suite) => {
+            junit_report(alloc, VERSION, suite, &Times::none(alloc), cases)
+        }
         ReportForm::Html => html_page(alloc, text),
         ReportForm::Summary => summary_report(alloc, cases),
     }
@@ -100,7 +119,7 @@ fn legal_answer(
 
 // The answer for blocks of which this is the judgement of the first that is not legal.
 fn illegal_answer(alloc: Global, judgement: Judgement) -> Result<Answer, NoMemory>
-    ensures { IfOk result (λ a. a ≡ unreported (illegal_line judgement)) }
+    ensures { IfOk result (λ a. a ≡ record { out = []; told = codes "ttrun: " ++ illegal_line judgement; status = 3 }) }
 {
     let mut line = Vec::new(alloc);
     append_text(&mut line, "ttrun: ")?;
@@ -112,8 +131,8 @@ fn illegal_answer(alloc: Global, judgement: Judgement) -> Result<Answer, NoMemor
     })
 }
 
-/// The answer for the blocks of a text, of which these are the chosen ones, and missing test cases, with lines for standard
-/// error. If all blocks are legal, the form is written; otherwise the line of `check` for the first that is not is printed.
+/// The answer for blocks, of which these are the chosen ones, and missing test cases, with lines for standard error. The
+/// text is the one that the form is made of, if it is made of one. If all blocks are legal, the form is written; otherwise the line of `check` for the first that is not is printed.
 pub(crate) fn report_blocks<K: Summarizes + Drop>(
     alloc: Global,
     form: &ReportForm,
@@ -123,8 +142,9 @@ pub(crate) fn report_blocks<K: Summarizes + Drop>(
     missing: &[Name],
     notes: Vec<u8>,
 ) -> Result<Answer, NoMemory>
-    ensures { IfOk result (λ a. (blocks of : List Block) → Reports blocks of (map (summary_by K.summary) chosen.items) illegal
-        → IsReport form.now text.now blocks of missing.now notes.items a) }
+    ensures { IfOk result (λ a. (given : List ℕ) (blocks of : List Block) → (AreAllLegal blocks → IsTextFor form.now given of text.now)
+        → Reports blocks of (map (summary_by K.summary) chosen.items) illegal
+        → IsReport form.now given blocks of missing.now notes.items a) }
 {
     match illegal {
         None => {
@@ -137,28 +157,35 @@ pub(crate) fn report_blocks<K: Summarizes + Drop>(
 }
 
 // What `report` makes of the blocks of a text.
-fn reported(
+fn reported<K: Answers>(
     alloc: Global,
     form: &ReportForm,
     choice: &Choice,
     text: &[u8],
-    blocks: Vec<Judged<Summary>>,
+    blocks: Vec<Judged<K>>,
 ) -> Result<Answer, RunFault>
-    ensures { (given : List ℕ) → IsTextFor form.now given text.now → AreJudgedIn IsSummaryOf choice.now.last given blocks.items
+    ensures { (given : List ℕ) → ((chosen : List Block) → K.fits form.now given chosen text.now)
+        → AreJudgedIn K.kept_of choice.now.last given blocks.items
         → IsMadeOfBlocks choice.now given (IsReported form.now choice.now.last (is_chosen choice.now) given) result }
 {
-    let only = choice.only.as_slice();
-    if !name_blocks(only, blocks.as_slice()) {
-        return Err(RunFault::Only);
-    }
-    let illegal = first_illegal(blocks.as_slice());
-    let chosen = picked(blocks, only, choice.failed);
-    let answer = report_blocks(alloc, form, text, chosen, illegal, &[], Vec::new(alloc))?;
+    let (chosen, illegal) = pick(choice, blocks)?;
+    let answer = K::answer(alloc, form, text, chosen, illegal, &[], Vec::new(alloc))?;
     Ok(answer)
+}
+
+/// Whether the form is made of what is judged, and neither of the text nor of what the runs did.
+pub fn is_of_judged(form: &ReportForm) -> bool
+    ensures { result ≡ spec_judged form.now }
+{
+    match form {
+        ReportForm::Text | ReportForm::Html => false,
+        ReportForm::Csv | ReportForm::Junit(_) | ReportForm::Summary => true,
+    }
 }
 
 /// What `report` makes of a text of histories and evidence, each block of which is replayed on a table of its own. If all
 /// are legal, each pattern has to match the name of one.
+#[tactic(auto, using(crate::proofs::Judging::other_text))]
 pub fn report_text(
     alloc: Global,
     form: &ReportForm,
@@ -167,21 +194,30 @@ pub fn report_text(
 ) -> Result<Answer, RunFault>
     ensures { IsMadeOfBlocks choice.now text.now (IsReported form.now choice.now.last (is_chosen choice.now) text.now) result }
 {
-    let blocks = judge_text::<Summary>(alloc, choice.last, text)?;
-    reported(alloc, form, choice, text, blocks)
+    match form {
+        ReportForm::Text => {
+            let blocks = judge_text::<Whole<Summary>>(alloc, choice.last, text)?;
+            reported(alloc, form, choice, text, blocks)
+        }
+        _ => {
+            let blocks = judge_text::<Summary>(alloc, choice.last, text)?;
+            reported(alloc, form, choice, text, blocks)
+        }
+    }
 }
 
-/// The same of an input, of which only a part is in memory at a time, if the form is not made of its text.
+/// The same of an input, of which only a part is in memory at a time, if the form is made of what is judged.
+#[tactic(auto, using(crate::proofs::Judging::no_text))]
 pub fn report_input<R: Read>(
     alloc: Global,
     form: &ReportForm,
     choice: &Choice,
     reader: &mut R,
 ) -> Result<Answer, RunFault>
-    requires { form.now ≢ ReportForm.Html }
-    ensures { IsMadeOfInput HISTORY_LIMIT (R.remaining reader.old)
+    requires { spec_judged form.now ≡ true }
+    ensures { IsMadeOfInput (history_limit choice.now.long) (R.remaining reader.old)
         (λ text made. IsMadeOfBlocks choice.now text (IsReported form.now choice.now.last (is_chosen choice.now) text) made) result }
 {
-    let blocks = judge_input::<R, Summary>(alloc, choice.last, reader)?;
+    let blocks = judge_input::<R, Summary>(alloc, choice, reader)?;
     reported(alloc, form, choice, &[], blocks)
 }

@@ -1,8 +1,12 @@
 //! The entry that decided the verdict of a history, and who made it.
+ghost use Rattle.std.specs.Prelude.{◌≡◌, option_copied, reverse};
+ghost use Rattle.tc_rules.specs.Prelude.{component_name};
+
 use crate::checks::{blocks, got, is};
 use std::alloc::Global;
 use std::process::Abort;
 use tc_blocks::History;
+use tc_entry::{Comp, Name};
 use tc_rules::{Entry, NoMemory, Run, component_of, deciding_entry, name_of, replay_check};
 use tc_text::{append_number, append_text};
 
@@ -108,6 +112,13 @@ nobody
 3 run 1 on 1
 5 run 2 on 1 pump";
 
+/// The name that the component was created with, by the definition.
+fn created_name(history: &[Entry], comp: Comp) -> Option<&Name>
+    ensures { option_copied result ≡ component_name (reverse history.now) comp.0 }
+{
+    name_of(history, comp)
+}
+
 /// Appends the run, and its component.
 fn append_caller(out: &mut Vec<u8>, history: &[Entry], run: Run) -> Result<(), NoMemory> {
     append_text(out, " run ")?;
@@ -117,7 +128,7 @@ fn append_caller(out: &mut Vec<u8>, history: &[Entry], run: Run) -> Result<(), N
     };
     append_text(out, " on ")?;
     append_number(out, u64::from(comp.0))?;
-    if let Some(name) = name_of(history, comp) {
+    if let Some(name) = created_name(history, comp) {
         append_text(out, " ")?;
         out.extend_from_slice(name.bytes())?;
     }

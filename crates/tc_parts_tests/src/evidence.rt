@@ -1,8 +1,11 @@
 //! Texts of evidence, read and written again.
+ghost use Rattle.std.specs.Prelude.{◌<◌};
+ghost use Rattle.tc_blocks.specs.Prelude.{most_of};
+
 use crate::checks::{got, is};
 use std::alloc::Global;
 use std::process::Abort;
-use tc_blocks::{Block, append_whole_block, read_evidence, read_evidence_from};
+use tc_blocks::{Block, Limit, append_whole_block, read_evidence, read_evidence_from};
 use tc_entry::Sequence;
 use tc_stream::InputFault;
 use tc_stream::devices::SlowReader;
@@ -118,27 +121,64 @@ fn read_slowly(
     alloc: Global,
     bytes: &[u8],
     fails_at: usize,
-    limit: u16,
-) -> Result<Result<Sequence<Block>, TextFault>, InputFault> {
+    limit: Limit,
+) -> Result<Result<Sequence<Block>, TextFault>, InputFault>
+    requires { most_of limit < usize.MAX }
+{
     let mut reader = SlowReader::new(bytes, fails_at);
-    read_evidence_from(alloc, &mut reader, usize::from(limit))
+    read_evidence_from(alloc, &mut reader, limit)
 }
 
 fn comes_of(rt: &impl Abort, alloc: Global, row: &str, wanted: &str) -> Result<(), NoMemory> {
     let mut text = Vec::new(alloc);
     append_lines(&mut text, row)?;
     is_found(rt, alloc, &text, read_evidence(alloc, &text), wanted)?;
-    let slowly = got(rt, read_slowly(alloc, &text, NEVER, 1000));
+    let slowly = got(rt, read_slowly(alloc, &text, NEVER, Limit::Blocks(1000)));
     is_found(rt, alloc, &text, slowly, wanted)
 }
 
 #[test]
 fn inputs_that_are_not_read(rt: HostRuntime) {
     let bytes = b"x\nend none\n";
-    let long = read_slowly(rt.alloc(), bytes, NEVER, 10).err();
+    let long = read_slowly(rt.alloc(), bytes, NEVER, Limit::Whole(10)).err();
     is(&rt, "a byte too many", long, Some(InputFault::TooLong));
-    let failed = read_slowly(rt.alloc(), bytes, 11, 11).err();
+    let failed = read_slowly(rt.alloc(), bytes, 11, Limit::Whole(11)).err();
     is(&rt, "the read of the end", failed, Some(InputFault::Read));
+}
+
+/// Texts with `~` for each LF, and the most bytes of what is one block of them.
+const LONGEST: &str = "\
+history 2 t 1~end none~ => 23
+history 2 t 1~end none~history 2 tt 1~end none~ => 24
+history 2 t 1~0 create -> made 1~end none~end none~ => 42
+history 2 t 1~end none => 22
+endnone~en~ => 11
+en~x end ~ end ~ => 16
+x~end ~x~end ~endend~ => 7";
+
+fn is_longest(rt: &impl Abort, alloc: Global, row: &str, most: usize) -> Result<(), NoMemory> {
+    let mut text = Vec::new(alloc);
+    append_lines(&mut text, row)?;
+    let right = read_slowly(alloc, &text, NEVER, Limit::Blocks(most)).is_ok();
+    is(rt, "as many bytes as a block may have", right, true);
+    let long = read_slowly(alloc, &text, NEVER, Limit::Blocks(most.saturating_sub(1))).err();
+    is(
+        rt,
+        "a byte too many in a block",
+        long,
+        Some(InputFault::TooLong),
+    );
+    Ok(())
+}
+
+#[test]
+fn the_longest_blocks(rt: HostRuntime) -> Result<(), NoMemory> {
+    for row in LONGEST.lines() {
+        if let Some((text, most)) = row.split_once(" => ") {
+            is_longest(&rt, rt.alloc(), text, got(&rt, most.parse::<usize>()))?;
+        }
+    }
+    Ok(())
 }
 
 #[test]

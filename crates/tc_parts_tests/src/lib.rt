@@ -24,5 +24,3 @@ mod streams;
 mod tables;
 #[cfg(test)]
 mod texts;
-#[cfg(test)]
-mod words;

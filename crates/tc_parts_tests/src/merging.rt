@@ -1,12 +1,14 @@
-//! Histories and logs that are merged.
+//! Histories and logs that are merged, and what the close of a word counted.
 use crate::checks::{blocks, first, is};
 use std::alloc::Global;
 use std::process::Abort;
 use tc_blocks::{History, write_block};
-use tc_book::RunLog;
+use tc_board::Record;
 use tc_book::laws::merge;
+use tc_book::{RunLog, counts};
 use tc_entry::{Comp, Entry, NoMemory, Run};
 use tc_rules::replay_check;
+use tc_verdict::UserVerdict;
 
 /// The entries of no verdict call, and then the logs of runs 1, 0 and 2.
 const LOGS: &str = "\
@@ -104,4 +106,38 @@ fn merge_of_three_logs(rt: HostRuntime) -> Result<(), NoMemory> {
     ]?;
     let mut out = Vec::new(rt.alloc());
     is_merged(&rt, rt.alloc(), &mut out, first(&rt, &blocks), &logs)
+}
+
+/// The log of a run that sets three verdicts, the last one too late.
+const LOG: &str = "\
+history 2 t 2
+1 setverdict inconc -> ok
+1 setverdict pass -> ok
+1 setverdict fail -> ended
+end none
+";
+
+/// Records of a word, and whether the log is right next to each.
+const RECORDS: [(Record, bool); 6] = [
+    (Record::Closed(UserVerdict::None, UserVerdict::Inconc), true),
+    (Record::Closed(UserVerdict::Fail, UserVerdict::Fail), true),
+    (Record::Closed(UserVerdict::None, UserVerdict::Fail), false),
+    (
+        Record::Closed(UserVerdict::Fail, UserVerdict::Inconc),
+        false,
+    ),
+    (Record::Open(UserVerdict::Inconc), false),
+    (Record::Unbegun, false),
+];
+
+fn are_counted(rt: &impl Abort, log: &[Entry]) {
+    for (word, wanted) in RECORDS {
+        is(rt, "counts", counts(word, log), wanted);
+    }
+}
+
+#[test]
+fn counts_of_a_log(rt: HostRuntime) {
+    let blocks = blocks(&rt, rt.alloc(), LOG.as_bytes());
+    are_counted(&rt, first(&rt, &blocks).entries.as_slice());
 }

@@ -1,5 +1,5 @@
 //! Single texts.
-use crate::checks::is;
+use crate::checks::{got, is};
 use std::alloc::Global;
 use std::process::Abort;
 use tc_table::{
@@ -24,9 +24,7 @@ fn append_texts(out: &mut Vec<u8>) -> Result<(), NoMemory> {
     let op = start();
     write_move(out, Run(0), &op)?;
     append_text(out, ", ")?;
-    write_op(out, &op)?;
-    append_text(out, ", ")?;
-    write_reply(out, &Reply::Fault(Fault::Stuck))
+    write_op(out, &op)
 }
 
 /// What is read of bytes of which there may be three, if anything is.
@@ -39,18 +37,21 @@ fn read_three(alloc: Global, text: &[u8]) -> Result<Vec<u8>, InputFault> {
 fn single_texts(rt: HostRuntime) -> Result<(), NoMemory> {
     let mut out = Vec::new(rt.alloc());
     append_texts(&mut out)?;
-    let texts = "0 start 1 2 3, start 1 2 3, error stuck";
+    let texts = "0 start 1 2 3, start 1 2 3";
     is(&rt, "texts", out.as_slice(), texts.as_bytes());
+    let mut reply = Vec::new(rt.alloc());
+    write_reply(&mut reply, &Reply::Fault(Fault::Stuck))?;
+    is(&rt, "a reply", reply.as_slice(), b"error stuck".as_slice());
     is(
         &rt,
         "a move",
         &read_move(b"0 start 1 2 3"),
         &Some((Run(0), start())),
     );
-    let three = read_three(rt.alloc(), b"abc").map(|bytes| bytes.len());
-    is(&rt, "three bytes", three, Ok(3));
-    let four = read_three(rt.alloc(), b"abcd").map(|bytes| bytes.len());
-    is(&rt, "four bytes", four, Err(InputFault::TooLong));
+    let three = got(&rt, read_three(rt.alloc(), b"abc"));
+    is(&rt, "three bytes", three.as_slice(), b"abc".as_slice());
+    let four = read_three(rt.alloc(), b"abcd").err();
+    is(&rt, "four bytes", four, Some(InputFault::TooLong));
     Ok(())
 }
 

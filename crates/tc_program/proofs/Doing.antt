@@ -1,39 +1,60 @@
 -- What comes of a text, and of an input.
-use Rattle.std.proofs.Common.{ℕ, Bool, ◌≡◌, ◌∙◌, ◌≤◌, List, Option, IfSome, Result, Ok, Err, inl, inr, length, refl, subst, sym}
-use Rattle.std.specs.Prelude.{◌≢◌, ◌⊎◌, MatchResult}
-use Rattle.std.specs.Io.KnownBytes.{Keeps}
-use Rattle.tc_answer.specs.{Inside.GivesAnswer, declared.fault.RunFault.RunFault, declared.limits.TheConstants.HISTORY_LIMIT, declared.outcome.Outcome.Outcome, declared.reply.Answer.Answer}
+use Rattle.std.{proofs.Common.{ℕ, Bool, false, true, ◌&&◌, ◌≡◌, ◌∙◌, ◌≤◌, List, Option, IfOk, IfSome, if◌then◌else◌, Result, Ok, Err, inl, inr, length, refl, subst, sym}, specs.{Prelude.{◌≢◌, ◌⊎◌, not, MatchBool, MatchResult}, Global.Vec, Io.KnownBytes.Keeps}}
+use Rattle.tc_text.{specs.Prelude.{Line, TellsAmong}, proofs.Lemmas.Among.among_some}
+use Rattle.tc_answer.specs.{declared.{fault.RunFault.RunFault, outcome.Outcome.Outcome, reply.Answer.Answer}, Prelude.{GivesAnswer, number_of, run_fault_line, IsUnread, IsPrintedRefusal, Streams}}
 use Rattle.tc_command.specs.declared.task.{Choice.Choice, RunOptions.RunOptions, Task.Task}
-use Rattle.tc_answer.specs.Prelude.{run_fault_line, IsUnread, IsPrintedRefusal, Streams}
-use Rattle.tc_stream.specs.Prelude.{IsRead}
-use Rattle.tc_judge.specs.Prelude.{IsChecked, IsMadeOfInput, IsSilent, RefusesBlocks}
-use Rattle.tc_judge.specs.{Check.NameBlocks, Inside.block_name, Inside.is_picked}
-use Rattle.tc_program.specs.{Alone.IsNotBegun, Explained.IsToldOf, Inside.IsMadeInParts, Inside.IsUnbegun, Inside.WritesTo, Limits.limit_of, Made.Does, Made.IsMade, Program.IsCarriedOut, Program.IsDone, Program.IsDoneBy}
+use Rattle.tc_judge.specs.{Prelude.{IsChecked, IsMadeOfInput, IsSilent, RefusesBlocks, IsUnreadIn, history_limit}, Check.NameBlocks, Inside.{block_name, is_picked}}
+use Rattle.tc_program.specs.{Alone.IsNotBegun, Explained.{explains, is_of_text, part_of}, Inside.{IsMadeInParts, IsToldOf, IsUnbegun, WritesTo, notes_of}, Limits.{has_blocks, limit_of, is_long, text_limit}, Made.{Does, IsMade}, Program.{IsCarriedOut, IsDone, IsDoneBy}}
+use Rattle.tc_blocks.specs.{Prelude.{IsInLimit, IsReadIn}, declared.limit.Limit.Limit}
 
 -- what comes of an input that is read is what comes of its text
-pub read_does : (task : Task) (input before after : Option (List ℕ)) (text : List ℕ) (r : Result ℕ RunFault) → length text ≤ limit_of task → IfSome input (λ given. text ≡ given)
+pub read_does : (task : Task) (input before after : Option (List ℕ)) (text : List ℕ) (r : Result ℕ RunFault) → IsInLimit (limit_of task) text → IfSome input (λ given. text ≡ given)
     → WritesTo task text before after r → Does task input before after r
 read_does task input before after text (Ok status) fits all does = (text, fits, all, does)
 read_does task input before after text (Err RunFault.Write) fits all does = (text, fits, all, does)
 read_does task input before after text (Err fault) fits all does = (inr (text, fits, all, does.0), does.1)
 
 -- the same of a text that is lent
-pub lent_does : (task : Task) (input before after : Option (List ℕ)) (text lent : List ℕ) (r : Result ℕ RunFault) → lent ≡ text → length text ≤ limit_of task
+pub lent_does : (task : Task) (input before after : Option (List ℕ)) (text lent : List ℕ) (r : Result ℕ RunFault) → lent ≡ text → IsInLimit (limit_of task) text
     → IfSome input (λ given. text ≡ given) → WritesTo task lent before after r → Does task input before after r
 lent_does task input before after text lent r same fits all does = read_does task input before after text r fits all (subst (λ t. WritesTo task t before after r) same does)
+
+-- a text that is kept has as many bytes as it may have
+pub fits_kept : (task : Task) (text : List ℕ) → is_long task ≡ false → length text ≤ text_limit task → IsInLimit (limit_of task) text
+fits_kept task text kept fits = subst (λ l. IsInLimit (if l then Limit.Blocks (text_limit task) else Limit.Whole (text_limit task)) text) (sym kept) fits
+
+-- a task that explains a fault keeps its text
+pub not_long : (asks long : Bool) → (asks && not long) ≡ true → long ≡ false
+not_long asks false is = refl
+not_long true true is = absurd cc
+not_long false true is = absurd cc
+
+pub and_true : (a b : Bool) → b ≡ true → (a && b) ≡ a
+and_true true b is = is
+and_true false b is = refl
+
+-- why there is none
+pub unread_whole : (most : ℕ) (input : Option (List ℕ)) (fault : RunFault) → IsUnread most input fault → IsUnreadIn (Limit.Whole most) input fault
+unread_whole most input RunFault.TooLong is = is
+unread_whole most input RunFault.Read is = is
+unread_whole most input RunFault.NoMemory is = is
+unread_whole most input fault is = absurd is
+
+pub unread_kept : (task : Task) (input : Option (List ℕ)) (fault : RunFault) → is_long task ≡ false → IsUnread (text_limit task) input fault → IsUnreadIn (limit_of task) input fault
+unread_kept task input fault kept is =
+    subst (λ l. IsUnreadIn (if l then Limit.Blocks (text_limit task) else Limit.Whole (text_limit task)) input fault) (sym kept) (unread_whole (text_limit task) input fault is)
 
 -- a task that makes an answer is done if the answer is given
 pub done_by : (task : Task) (Made : Result Answer RunFault → Type 0) (Refused : RunFault → Type 0) (Runs : RunOptions → Type 0) (a : Answer) (s : Streams) (outcome : Outcome)
     → Made (Ok a) → GivesAnswer a s outcome → IsDoneBy task Made Refused Runs s outcome
-done_by task Made Refused Runs a s outcome makes (inl given) = IsDoneBy.whole a makes given.0 given.1 given.2
-done_by task Made Refused Runs a s outcome makes (inr given) = IsDoneBy.part a makes given.0 given.1
+done_by task Made Refused Runs a s outcome makes given = IsDoneBy.made a makes given
 
 -- what the program does with a task by its whole input: it was read, and the text is done; or it was not, nothing was
 -- written, and why is printed
 abbrev pub IsDoneWhole : Task → Option (List ℕ) → Streams → Outcome → Type 0
 IsDoneWhole task input s outcome =
-    IsRead (limit_of task) input (λ text. IsDone task text s outcome)
-    ⊎ ((fault : RunFault) × IsUnread (limit_of task) input fault × Keeps s.before s.after × IsPrintedRefusal s.untold s.told (run_fault_line fault) outcome)
+    IsReadIn (limit_of task) input (λ text. IsDone task text s outcome)
+    ⊎ ((fault : RunFault) × IsUnreadIn (limit_of task) input fault × Keeps s.before s.after × IsPrintedRefusal s.untold s.told (run_fault_line fault) outcome)
 
 -- a task that is no service is carried out by its whole input
 pub carried_out : (task : Task) (input : Option (List ℕ)) (s : Streams) (outcome : Outcome) → task ≢ Task.Serve → IsDoneWhole task input s outcome
@@ -61,7 +82,7 @@ parts_refused task input made fault s outcome parts is keeps refusal = carried_o
     by : IsMadeOfInput (limit_of task) input (IsMade task) made → IsDoneWhole task input s outcome
     by (inl read) =
         inl (read.0, read.1, read.2, IsDoneBy.refused fault (subst (IsMade task read.0) is read.3) keeps (run_fault_line fault, told read.0, refusal))
-    by (inr unread) = let same : fault ≡ unread.0 = cc in inr (fault, subst (IsUnread (limit_of task) input) (sym same) unread.2, keeps, refusal)
+    by (inr unread) = let same : fault ≡ unread.0 = cc in inr (fault, subst (IsUnreadIn (limit_of task) input) (sym same) unread.2, keeps, refusal)
 
 -- what is made of a text that is checked, by the choice
 abbrev MadeBy : List ℕ → Result Answer RunFault → Bool → List (List ℕ) → Bool → Type 0
@@ -70,39 +91,56 @@ MadeBy text made l o f =
 
 -- what is made of an input for one choice is made for another that chooses the same
 pub made_for : (some choice : Choice) (explains : Bool) (input : Option (List ℕ)) (made : Result Answer RunFault) → some.only.items ≡ choice.only.items → some.failed ≡ choice.failed
-    → some.last ≡ choice.last → IsMadeOfInput HISTORY_LIMIT input (IsMade (Task.Check some explains)) made → IsMadeOfInput HISTORY_LIMIT input (IsMade (Task.Check choice explains)) made
-made_for some choice explains input made only failed last (inl read) =
+    → some.last ≡ choice.last → some.long ≡ choice.long → IsMadeOfInput (history_limit some.long) input (IsMade (Task.Check some explains)) made
+    → IsMadeOfInput (history_limit choice.long) input (IsMade (Task.Check choice explains)) made
+made_for some choice explains input made only failed last long (inl read) =
     inl (
       read.0,
-      read.1,
+      subst (λ l. IsInLimit (history_limit l) read.0) long read.1,
       read.2,
       subst (λ l. MadeBy read.0 made l choice.only.items choice.failed) last
           (subst (λ f. MadeBy read.0 made some.last choice.only.items f) failed (subst (λ o. MadeBy read.0 made some.last o some.failed) only read.3)),
     )
-made_for some choice explains input made only failed last (inr unread) = inr unread
+made_for some choice explains input made only failed last long (inr unread) = inr (subst (λ l. (fault : RunFault) × (made ≡ Err fault) × IsUnreadIn (history_limit l) input fault) long unread)
 
 -- what is made of an input that is checked was written
 pub checked_does : (choice : Choice) (explains : Bool) (input before after : Option (List ℕ)) (a : Answer) (r : Result ℕ RunFault)
-    → IsMadeOfInput HISTORY_LIMIT input (IsMade (Task.Check choice explains)) (Ok a)
+    → IsMadeOfInput (history_limit choice.long) input (IsMade (Task.Check choice explains)) (Ok a)
     → ((text : List ℕ) → IsMade (Task.Check choice explains) text (Ok a) → WritesTo (Task.Check choice explains) text before after r) → Does (Task.Check choice explains) input before after r
 checked_does choice explains input before after a r (inl read) writes = read_does (Task.Check choice explains) input before after read.0 r read.1 read.2 (writes read.0 read.3)
 checked_does choice explains input before after a r (inr unread) writes = let no : Ok a ≡ Err unread.0 = unread.1 in absurd cc
 
 -- nothing is made of an input that is checked: it was not read, or is refused
-pub unchecked : (choice : Choice) (explains : Bool) (input before after : Option (List ℕ)) (fault : RunFault) → IsMadeOfInput HISTORY_LIMIT input (IsMade (Task.Check choice explains)) (Err fault)
+pub unchecked : (choice : Choice) (explains : Bool) (input before after : Option (List ℕ)) (fault : RunFault) → IsMadeOfInput (history_limit choice.long) input (IsMade (Task.Check choice explains)) (Err fault)
     → Keeps before after → Does (Task.Check choice explains) input before after (Err fault)
 unchecked choice explains input before after RunFault.Write (inl read) keeps = absurd read.3
 unchecked choice explains input before after RunFault.Write (inr unread) keeps =
-    let same : RunFault.Write ≡ unread.0 = cc in absurd (subst (IsUnread HISTORY_LIMIT input) (sym same) unread.2)
+    let same : RunFault.Write ≡ unread.0 = cc in absurd (subst (IsUnreadIn (history_limit choice.long) input) (sym same) unread.2)
 unchecked choice explains input before after fault (inl read) keeps = (inr read, keeps)
 unchecked choice explains input before after fault (inr unread) keeps =
-    let same : fault ≡ unread.0 = cc in (inl (subst (IsUnread HISTORY_LIMIT input) (sym same) unread.2), keeps)
+    let same : fault ≡ unread.0 = cc in (inl (subst (IsUnreadIn (history_limit choice.long) input) (sym same) unread.2), keeps)
 
 -- where no thread can be started, a text that is lent is done or left, so the task is carried out by its whole input or left
-pub done_or_left : (task : Task) (input : Option (List ℕ)) (text lent : List ℕ) (s : Streams) (outcome : Outcome) → lent ≡ text → length text ≤ limit_of task
+pub done_or_left : (task : Task) (input : Option (List ℕ)) (text lent : List ℕ) (s : Streams) (outcome : Outcome) → lent ≡ text → IsInLimit (limit_of task) text
     → IfSome input (λ given. text ≡ given) → task ≢ Task.Serve → IsDone task lent s outcome ⊎ IsNotBegun task lent s outcome → IsCarriedOut task input s outcome ⊎ IsUnbegun task input s outcome
 done_or_left task input text lent s outcome same fits all other (inl done) =
     inl (carried_out task input s outcome other (inl (text, fits, all, subst (λ t. IsDone task t s outcome) same done)))
 done_or_left (Task.Run o) input text lent s outcome same fits all other (inr left) =
     inr (text, fits, all, subst (λ t. IsNotBegun (Task.Run o) t s outcome) same left)
 done_or_left task input text lent s outcome same fits all other (inr left) = absurd left
+
+-- ---- what is printed about a text that is refused
+
+some_if : (b : Bool) (notes : List Line) (line : List ℕ) → (told : List ℕ) × MatchBool b (TellsAmong notes line told) (told ≡ line)
+some_if true notes line = among_some notes line
+some_if false notes line = (line, refl)
+
+-- something can be printed
+pub some_told : (task : Task) (text : List ℕ) (fault : RunFault) → (told : List ℕ) × IsToldOf task text fault told
+some_told task text fault = some_if (explains task && is_of_text fault) (notes_of (number_of fault) (part_of (has_blocks task) fault text)) (run_fault_line fault)
+
+-- what was made for printing, or something that can be printed
+pub told_or : {E : Type 0} (r : Result (Vec ℕ) E) (Is : List ℕ → Type 0) → ((told : List ℕ) × Is told) → IfOk r (λ v. Is v.items) →
+    (told : List ℕ) × Is told × IfOk r (λ v. v.items ≡ told)
+told_or (Ok v) Is some made = (v.items, made, refl)
+told_or (Err e) Is some made = (some.0, some.1, tt)

@@ -1,14 +1,10 @@
 -- Test cases that are taken one after the other.
-use Rattle.std.proofs.Common.{ℕ, ◌≡◌, ◌∙◌, ◌++◌, ◌∷◌, Bool, true, false, List, [], arith, length, refl, ap, sym, subst}
-use Rattle.std.specs.List.{AllZip}
-use Rattle.std.proofs.lemmas.{Grind.common_steps, List.append-nil}
-use Rattle.tc_exec.proofs.Lemmas.Taking.{done_none}
-use Rattle.tc_exec.specs.{Inside.AreDone, declared.test_case.Case.Case}
+use Rattle.std.{proofs.{Common.{ℕ, ◌≡◌, ◌∙◌, ◌++◌, ◌∷◌, Bool, true, false, List, [], arith, length, refl, ap, sym, subst}, lemmas.{Grind.common_steps, List.append-nil}}, specs.List.AllZip}
+use Rattle.tc_exec.{proofs.Lemmas.Taking.done_none, specs.{Inside.AreDone, declared.test_case.Case.Case}}
 use Rattle.tc_command.specs.declared.task.ExploreOptions.{ExploreOptions}
 use Rattle.tc_step.specs.Prelude.{ScriptView}
-use Rattle.tc_answer.specs.Inside.{IsCaseOf}
-use Rattle.tc_answer.specs.Prelude.{CaseView}
-use Rattle.tc_program.specs.{Explore.IsExplored, Explore.TellsLocals, Inside.IsExploredOf, Inside.TellsLocalsIf, declared.explore.ExploredCase.ExploredCase}
+use Rattle.tc_answer.specs.{Inside.IsCaseOf, Prelude.CaseView}
+use Rattle.tc_program.specs.{Explore.{IsExplored, TellsLocals}, Inside.{IsExploredOf, TellsLocalsIf}, declared.explore.ExploredCase.ExploredCase}
 
 -- at first none is done
 pub done_start : {A B : Type 0} (R : A → B → Type 0) (all left : List A) (ys : List B) → left ≡ all → ys ≡ [] → AreDone R all left ys

@@ -5,5 +5,3 @@ pub mod OwnCases
 pub mod Exploring
 pub mod WrittenHistories
 pub mod Reporting
-pub mod Explaining
-pub mod ListedNames

@@ -1,18 +1,14 @@
 -- Test cases of a program's own, as a task asks for them.
-use Rattle.std.proofs.Common.{ℕ, ◌≡◌, All, Bool, false, true, List, Option, IfOk, Result, Ok, Err, inl, inr, refl, subst, sym}
-use Rattle.std.specs.Prelude.{◌≢◌, ◌⊎◌}
-use Rattle.std.specs.Global.{Vec}
+use Rattle.std.{proofs.Common.{ℕ, ◌≡◌, ◌++◌, ◌∷◌, [], All, Bool, false, true, List, Option, ap₂, IfOk, Result, Ok, Err, inl, inr, refl, subst, sym}, specs.{Prelude.{◌≢◌, ◌⊎◌}, Global.Vec, List.AllZip}}
 use Rattle.tc_book.specs.Prelude.{PassState}
 use Rattle.tc_campaign.specs.Prelude.{AreBack, IsCalled, HasNames, outline_of}
-use Rattle.tc_answer.specs.Prelude.{case_name, chosen, have_names, AreChosenOf, run_fault_line, IsPrintedRefusal, Streams}
+use Rattle.tc_answer.{specs.{Prelude.{CaseView, case_name, chosen, have_names, AreChosenOf, run_fault_line, IsPrintedRefusal, Streams}, Inside.{IsCaseOf, RefusesNames, script_name}, declared.{fault.RunFault.RunFault, outcome.Outcome.Outcome, reply.Answer.Answer}}, proofs.Lemmas.Chosen.all_chosen}
 use Rattle.tc_exec.specs.declared.{job.Back.Back, test_case.Case.Case}
-use Rattle.tc_command.specs.Prelude.{IsCasesReading, IsReading}
-use Rattle.tc_command.specs.declared.{read.Refused.Refused, task.Choice.Choice, task.RunOptions.RunOptions, task.Task.Task}
+use Rattle.tc_command.specs.{Prelude.{IsCasesReading, IsReading}, declared.{read.Refused.Refused, task.{Choice.Choice, RunOptions.RunOptions, Task.Task}}}
 use Rattle.tc_report.specs.declared.fault.OutFault.{OutFault}
-use Rattle.tc_answer.proofs.Lemmas.Chosen.{all_chosen}
 use Rattle.tc_run.specs.Prelude.{of_output, IsRun, IsUnwrittenRun}
-use Rattle.tc_answer.specs.{Inside.RefusesNames, declared.fault.RunFault.RunFault, declared.outcome.Outcome.Outcome, declared.reply.Answer.Answer}
-use Rattle.tc_program.specs.{Alone.IsAnsweredAlone, Answer.IsAnsweredBy, Answer.IsRefused, Cases.DoesCases, Cases.IsMadeOfCases, Cases.RefusesCases, Cases.WereMade, Inside.IsOfCases, Inside.IsUnbegun, Made.IsListed, Program.IsCarriedOut, Program.IsDoneBy}
+use Rattle.tc_step.specs.Prelude.{ScriptView}
+use Rattle.tc_program.specs.{Alone.IsAnsweredAlone, Answer.{IsAnsweredBy, IsRefused}, Cases.{DoesCases, IsMadeOfCases, RefusesCases, WereMade}, Inside.{IsOfCases, IsUnbegun, list_text}, Made.IsListed, Program.{IsCarriedOut, IsDoneBy}}
 
 -- what such arguments ask for is a run or a list
 pub of_cases : (words : List (List ℕ)) (task : Task) → IsCasesReading words (Ok task) → IsOfCases task
@@ -98,7 +94,14 @@ module _ {B E : Type 0} (called : B → PassState → Back → Type 0) (made : R
     run = inr (record {
       fault = fault;
       between = s.told;
-      run = record { results = run.results; left = run.left; told = run.told };
+      run = record { results = run.results; times = run.times; timed = run.timed; left = run.left; told = run.told };
       refusal = refusal;
     });
   })
+
+-- the list of test cases that were made of a script is the list of the script
+pub same_lines : (cs : List CaseView) (ks : List (Case ScriptView)) → AllZip IsCaseOf cs ks → list_text case_name ks ≡ list_text script_name cs
+same_lines [] [] each = refl
+same_lines [] (k ∷ ks) each = absurd each
+same_lines (c ∷ cs) [] each = absurd each
+same_lines (c ∷ cs) (k ∷ ks) each = ap₂ (λ (n : List ℕ) rest. (n ++ (10 ∷ [])) ++ rest) each.0.name (same_lines cs ks each.1)

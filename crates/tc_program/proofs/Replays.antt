@@ -1,12 +1,9 @@
 -- A move list, played move by move.
-use Rattle.std.proofs.Common.{ℕ, ◌≡◌, List, [], ◌∷◌, ◌++◌, map, reverse, refl, ap, subst, sym, ◌∙◌}
-use Rattle.std.proofs.lemmas.List.{Concat.flat_map-append, append-nil, map-append, reverse-append}
-use Rattle.std.specs.List.{flat_map}
-use Rattle.tc_rules.specs.Prelude.{Verdict, Entry, Reply, StandsFor, overall}
+use Rattle.std.{proofs.{Common.{ℕ, ◌≡◌, List, [], ◌∷◌, ◌++◌, map, reverse, refl, ap, subst, sym, ◌∙◌}, lemmas.List.{Concat.flat_map-append, append-nil, map-append, reverse-append}}, specs.List.flat_map}
+use Rattle.tc_rules.{specs.Prelude.{Verdict, Entry, Reply, StandsFor, overall}, proofs.Lemmas.Standing.legal_for}
 use Rattle.tc_text.specs.Prelude.{Move, IsMadeOfMoves, IsMoveList, reply_text}
-use Rattle.tc_rules.proofs.Lemmas.Standing.{legal_for}
 use Rattle.tc_report.specs.Prelude.{verdict_line, verdict_status}
-use Rattle.tc_program.specs.{Inside.ArePlayed, Inside.move_of, Inside.reply_line, Replay.Replays, declared.replaying.Replaying.Replaying}
+use Rattle.tc_program.specs.{Inside.{ArePlayed, move_of, reply_line}, Replay.Replays, declared.replaying.Replaying.Replaying}
 
 one_line : (h : List Entry) (e : Entry) → flat_map reply_line (h ++ e ∷ []) ≡ flat_map reply_line h ++ reply_line e
 one_line h e = flat_map-append reply_line h (e ∷ []) ∙ ap (λ l. flat_map reply_line h ++ l) (append-nil (reply_line e))

@@ -1,23 +1,11 @@
 -- What `check` and `report` make of what a run wrote.
-use Rattle.std.proofs.Common.{ℕ, ◌≡◌, ◌∙◌, All, Bool, false, List, [], ◌∷◌, if◌then◌else◌, filter, map, refl, ap, subst}
-use Rattle.std.specs.List.{flat_map}
-use Rattle.std.proofs.lemmas.List.{Elements.All-head, Elements.All-tail, append-nil}
-use Rattle.tc_blocks.specs.declared.{block.Block.Block, header.Kind.Kind}
-use Rattle.tc_blocks.specs.Prelude.{history_of}
+use Rattle.std.{proofs.{Common.{ℕ, ◌≡◌, ◌≢◌, ◌∙◌, All, Bool, false, List, [], ◌∷◌, if◌then◌else◌, filter, map, refl, ap, subst}, lemmas.List.{Elements.{All-head, All-tail}, append-nil}}, specs.List.flat_map}
+use Rattle.tc_blocks.specs.{declared.{block.Block.Block, header.Kind.Kind}}
 use Rattle.tc_command.specs.declared.task.{Choice.Choice, ReportForm.ReportForm}
-use Rattle.tc_report.specs.declared.{results.Finished.Finished, results.Results.Results, summary.Summary.Summary}
-use Rattle.tc_report.specs.Prelude.{block_summary, case_summary, blocks_text}
-use Rattle.tc_report.proofs.Lemmas.Telling.{one_same}
+use Rattle.tc_report.{specs.{declared.results.{Finished.Finished, Results.Results}, Prelude.{block_summary, blocks_text, written_summary}}, proofs.Lemmas.Telling.one_same}
 use Rattle.tc_answer.specs.declared.{fault.RunFault.RunFault, reply.Answer.Answer}
-use Rattle.tc_judge.specs.Prelude.{IsChecked, RefusesBlocks, ChoosesEach, counting, is_chosen, AnswersCases}
-use Rattle.tc_judge.specs.{Inside.block_name, Inside.each, Inside.is_picked, Report.IsReport}
-use Rattle.tc_judge.proofs.Lemmas.{answer_of, none_illegal}
-use Rattle.tc_program.specs.{Inside.WasRun, Inside.WereRun, Inside.legal_case, WrittenHistories.AreFoundLegal, WrittenHistories.found_legal}
-use Rattle.tc_program.proofs.WrittenHistories.{after, are_right, block_of, blocks_of, evidence_of, said_of_written, same_entries}
-
--- what the forms say of a block
-abbrev summary_at : Block → Summary
-summary_at = λ b. block_summary (history_of b)
+use Rattle.tc_judge.{specs.{Prelude.{IsChecked, RefusesBlocks, ChoosesEach, counting, is_chosen, AnswersCases}, Inside.{block_name, each, is_picked}, Report.{IsReport, body_of}}, proofs.Lemmas.{answer_of, none_illegal}}
+use Rattle.tc_program.{specs.{Inside.{WasRun, WereRun, legal_case}, WrittenHistories.AreFoundLegal}, proofs.WrittenHistories.{after, are_right, block_of, blocks_of, evidence_of, said_of_written}}
 
 -- all blocks are picked
 filter_each : (blocks : List Block) → filter each blocks ≡ blocks
@@ -31,19 +19,27 @@ each_chosen P choice all so =
     (subst (λ f. P choice.last (λ b. is_picked [] f (block_name b) b.verdict)) all.1
     (subst (λ o. P choice.last (λ b. is_picked o choice.failed (block_name b) b.verdict)) all.0 so))
 
-summary_written : (kind : Kind) (line : ℕ) (f : Finished) → WasRun kind f → summary_at (block_of kind line f) ≡ case_summary f
+summary_written : (kind : Kind) (line : ℕ) (f : Finished) → WasRun kind f → block_summary (block_of kind line f) ≡ written_summary kind f
 summary_written kind line f ran =
-    one_same f (history_of (block_of kind line f)) (record { name = refl; entries = same_entries kind f; report = ran.report })
+    one_same kind f (block_of kind line f) (record { name = refl; behaviours = refl; lines = refl; report = ran.report })
 
-summaries_written : (kind : Kind) (line : ℕ) (fs : List Finished) → All (WasRun kind) fs → map summary_at (blocks_of kind line fs) ≡ map case_summary fs
+summaries_written : (kind : Kind) (line : ℕ) (fs : List Finished) → All (WasRun kind) fs → map block_summary (blocks_of kind line fs) ≡ map (written_summary kind) fs
 summaries_written kind line [] all = refl
 summaries_written kind line (f ∷ fs) all =
     let first = summary_written kind line f (All-head (WasRun kind) f fs all) in
     let rest = summaries_written kind (after kind line f) fs (All-tail (WasRun kind) f fs all) in
-    ap (λ s. s ∷ map summary_at (blocks_of kind (after kind line f) fs)) first ∙ ap (λ l. case_summary f ∷ l) rest
+    ap (λ s. s ∷ map block_summary (blocks_of kind (after kind line f) fs)) first ∙ ap (λ l. written_summary kind f ∷ l) rest
+
+-- each form but the text report is made of the text of all blocks
+whole_body : (form : ReportForm) (text : List ℕ) (chosen : List Block) → form ≢ ReportForm.Text → body_of form text chosen ≡ text
+whole_body ReportForm.Text text chosen other = absurd (other refl)
+whole_body ReportForm.Csv text chosen other = refl
+whole_body (ReportForm.Junit suite) text chosen other = refl
+whole_body ReportForm.Html text chosen other = refl
+whole_body ReportForm.Summary text chosen other = refl
 
 module _ (kind : Kind) (r : Results) (ran : WereRun kind r) where
-  checked_so : (a : Answer) → IsChecked false each (blocks_text kind r) a.out a.status → a.told ≡ [] → a ≡ found_legal r
+  checked_so : (a : Answer) → IsChecked false each (blocks_text kind r) a.out a.status → a.told ≡ [] → a ≡ answer_of (flat_map legal_case r.finished) [] 0
   checked_so a is told =
       let two = said_of_written kind r a.out is.legal ran (is.checks.holds (blocks_of kind 1 r.finished) (evidence_of kind r ran)) in
       let status_is : a.status ≡ 0 = is.status_is ∙ ap (λ t. if t then 0 else 3) two.1 in
@@ -51,13 +47,14 @@ module _ (kind : Kind) (r : Results) (ran : WereRun kind r) where
       ap (λ x. answer_of x a.told a.status) two.0 ∙ ap (λ x. answer_of lines x a.status) told ∙ ap (λ x. answer_of lines [] x) status_is
 
   -- the report of what a run wrote: none of it is illegal
-  reported_so : (form : ReportForm) (a : Answer) → IsReport form (blocks_text kind r) (blocks_of kind 1 r.finished) (filter each (blocks_of kind 1 r.finished)) [] [] a
-      → AnswersCases form (blocks_text kind r) [] (map case_summary r.finished) a
-  reported_so form a (IsReport.legal legal is) =
+  reported_so : (form : ReportForm) (a : Answer) → form ≢ ReportForm.Text → IsReport form (blocks_text kind r) (blocks_of kind 1 r.finished) (filter each (blocks_of kind 1 r.finished)) [] [] a
+      → AnswersCases form (blocks_text kind r) [] (map (written_summary kind) r.finished) a
+  reported_so form a other (IsReport.legal legal is) =
       let blocks = blocks_of kind 1 r.finished in
-      subst (λ l. AnswersCases form (blocks_text kind r) [] l a)
-      (append-nil (map summary_at (filter each blocks)) ∙ (ap (map summary_at) (filter_each blocks) ∙ summaries_written kind 1 r.finished ran.each)) is
-  reported_so form a (IsReport.illegal line first is) =
+      subst (λ t. AnswersCases form t [] (map (written_summary kind) r.finished) a) (whole_body form (blocks_text kind r) (filter each blocks) other)
+      (subst (λ l. AnswersCases form (body_of form (blocks_text kind r) (filter each blocks)) [] l a)
+      (append-nil (map block_summary (filter each blocks)) ∙ (ap (map block_summary) (filter_each blocks) ∙ summaries_written kind 1 r.finished ran.each)) is)
+  reported_so form a other (IsReport.illegal line first is) =
       absurd (none_illegal (blocks_of kind 1 r.finished) line (are_right kind 1 r.finished ran.each) first)
 
   refused_so : (fault : RunFault) → RefusesBlocks false [] (blocks_text kind r) fault → fault ≡ RunFault.NoMemory
@@ -67,11 +64,11 @@ module _ (kind : Kind) (r : Results) (ran : WereRun kind r) where
   refused_so fault refused = absurd refused
 
   -- what `check` and `report` make of it
-  pub found_so : AreFoundLegal (blocks_text kind r) r
+  pub found_so : AreFoundLegal kind (blocks_text kind r) r
   found_so = record {
     checked_so = λ choice explains a all is. checked_so a (each_chosen (λ l t. IsChecked l t (blocks_text kind r) a.out a.status) choice all is.0.0) is.0.1;
-    reported_so = λ form choice explains a all is.
+    reported_so = λ form choice explains a other all is.
         let blocks = blocks_of kind 1 r.finished in
-        reported_so form a (each_chosen (λ l t. IsReport form (blocks_text kind r) (counting l blocks) (filter t (counting l blocks)) [] [] a) choice all (is.0.holds blocks (evidence_of kind r ran)));
+        reported_so form a other (each_chosen (λ l t. IsReport form (blocks_text kind r) (counting l blocks) (filter t (counting l blocks)) [] [] a) choice all (is.0.holds blocks (evidence_of kind r ran)));
     refused_so = λ fault refused. refused_so fault refused;
   }

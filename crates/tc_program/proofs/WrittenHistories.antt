@@ -1,20 +1,11 @@
 -- Written histories and evidence are legal.
-use Rattle.std.proofs.Common.{ℕ, ◌≡◌, ◌≢◌, ◌∙◌, ◌+◌, ◌≤◌, Bool, true, false, All, inr, List, [], ◌∷◌, ◌++◌, length, map, reverse, take, refl, ap, sym, subst, arith}
-use Rattle.std.specs.Prelude.{◌==◌}
-use Rattle.std.specs.List.{AllZip, flat_map}
-use Rattle.std.proofs.lemmas.{Bool.Decides.nat_tests, List.Elements.All-cons, List.Elements.All-head, List.Elements.All-nil, List.Elements.All-tail, List.Elements.All-take, List.Folds.list_any-append, List.length-take}
+use Rattle.std.{proofs.{Common.{ℕ, ◌≡◌, ◌≢◌, ◌∙◌, ◌+◌, ◌≤◌, Bool, true, false, All, inr, List, [], ◌∷◌, ◌++◌, length, map, reverse, take, refl, ap, sym, subst, arith}, lemmas.{Bool.Decides.nat_tests, List.{Elements.{All-cons, All-head, All-nil, All-tail, All-take}, Folds.list_any-append, length-take}}}, specs.{Prelude.◌==◌, List.{AllZip, flat_map}}}
 use Rattle.tc_rules.specs.Prelude.{IsName, Entry, IsLegal, overall, IsOneHistory}
-use Rattle.tc_blocks.specs.Prelude.{AreEntries, entries_of, is_about, is_met, AreBlocks, AreEvidence, AreLines, IsHeader, block_lines, format_of, text_of_block}
-use Rattle.tc_blocks.specs.declared.{block.Block.Block, header.Kind.Kind, line.Line.Line}
-use Rattle.tc_blocks.proofs.Lemmas.WrittenEvidence.{written_evidence}
-use Rattle.tc_report.specs.{Inside.case_lines, Inside.namings, declared.results.Finished.Finished, declared.results.Results.Results}
-use Rattle.tc_report.specs.Prelude.{blocks_text, case_block, finished_header}
-use Rattle.tc_campaign.specs.Prelude.{Outline}
-use Rattle.tc_campaign.specs.Inside.{IsReported}
-use Rattle.tc_judge.specs.{Check.AreAllLegal, Check.Checks, Check.IsLegalBlock, Inside.each}
-use Rattle.tc_judge.specs.Prelude.{legal_line}
-use Rattle.tc_judge.proofs.Lemmas.{block_line, only_legal}
-use Rattle.tc_program.specs.{Inside.FitsItsTypes, Inside.WasRun, Inside.WereRun, Inside.legal_case, WrittenHistories.AreReported}
+use Rattle.tc_blocks.{specs.{Prelude.{AreEntries, is_about, is_met, AreBlocks, AreEvidence, AreLines, IsHeader, block_lines, format_of, text_of_block}, declared.{block.Block.Block, header.Kind.Kind, line.Line.Line}}, proofs.Lemmas.WrittenEvidence.written_evidence}
+use Rattle.tc_report.{specs.{Inside.{case_lines, finished_header, namings}, declared.results.{Finished.Finished, Results.Results}, Prelude.{blocks_text, case_block}}, proofs.Lemmas.Telling.entries_written}
+use Rattle.tc_campaign.specs.{Prelude.Outline, Inside.IsReported}
+use Rattle.tc_judge.{specs.{Check.{AreAllLegal, Checks, IsLegalBlock}, Inside.each, Prelude.legal_line}, proofs.Lemmas.{block_line, only_legal}}
+use Rattle.tc_program.specs.{Inside.{FitsItsTypes, WasRun, WereRun, legal_case}, WrittenHistories.AreReported}
 
 -- the block of a finished test case, which begins in this line
 abbrev pub block_of : Kind → ℕ → Finished → Block
@@ -50,24 +41,10 @@ evidence_of kind r ran =
 
 -- ---- a legal block is found legal, and nothing else
 
-only_entries : (es : List Entry) → entries_of (map Line.Entry es) ≡ es
-only_entries [] = refl
-only_entries (e ∷ es) = ap (λ l. e ∷ l) (only_entries es)
-
-behind_namings : (run : ℕ) (names : List (List ℕ)) (es : List Entry) → entries_of (namings run names ++ map Line.Entry es) ≡ es
-behind_namings run [] es = only_entries es
-behind_namings run (name ∷ names) es = behind_namings (run + 1) names es
-
--- the entries of its block are those of a finished test case
-pub same_entries : (kind : Kind) (f : Finished) → entries_of (case_lines kind f) ≡ f.report.history
-same_entries Kind.Evidence f = behind_namings 0 (take f.report.behaviours f.names) f.report.history
-same_entries Kind.History1 f = only_entries f.report.history
-same_entries Kind.History2 f = only_entries f.report.history
-
 -- the block of a test case that was run
 right_of : (kind : Kind) (line : ℕ) (f : Finished) → WasRun kind f → IsLegalBlock (block_of kind line f)
 right_of kind line f ran =
-    let same = sym (same_entries kind f) in
+    let same = sym (entries_written kind f) in
     record {
       replies = subst (λ (es : List Entry). IsLegal f.report.behaviours (reverse es)) same ran.report.legal;
       verdict = ran.report.verdict ∙ ap (λ (es : List Entry). overall (reverse es)) same;
@@ -82,7 +59,7 @@ are_right kind line (f ∷ fs) all =
 same_lines : (kind : Kind) (line : ℕ) (fs : List Finished) → flat_map block_line (blocks_of kind line fs) ≡ flat_map legal_case fs
 same_lines kind line [] = refl
 same_lines kind line (f ∷ fs) =
-    ap (λ (es : List Entry). legal_line f.name (length es) f.report.verdict ++ flat_map block_line (blocks_of kind (after kind line f) fs)) (same_entries kind f)
+    ap (λ (es : List Entry). legal_line f.name (length es) f.report.verdict ++ flat_map block_line (blocks_of kind (after kind line f) fs)) (entries_written kind f)
     ∙ ap (λ l. legal_case f ++ l) (same_lines kind (after kind line f) fs)
 
 -- what is said of these blocks

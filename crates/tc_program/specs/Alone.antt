@@ -1,12 +1,9 @@
 -- What the program does where no thread can be started.
-use Rattle.std.specs.Prelude.{ℕ, ◌⊎◌, List, Option, Ok, codes, false}
-use Rattle.std.specs.Io.KnownBytes.{Keeps}
-use Rattle.tc_command.specs.Prelude.{IsReading}
-use Rattle.tc_command.specs.declared.task.Task.{Task}
+use Rattle.std.specs.{Prelude.{ℕ, ◌⊎◌, List, Option, Ok, codes, false}, Io.KnownBytes.Keeps}
+use Rattle.tc_command.specs.{Prelude.IsReading, declared.task.Task.Task}
 use Rattle.tc_reader.specs.Prelude.{CampaignView}
-use Rattle.tc_answer.specs.declared.outcome.Outcome.{Outcome}
-use Rattle.tc_answer.specs.Prelude.{said, IsPrintedRefusal, Streams}
-use Rattle.tc_stream.specs.Prelude.{IsRead}
+use Rattle.tc_answer.specs.{declared.outcome.Outcome.Outcome, Prelude.{said, IsPrintedRefusal, Streams}}
+use Rattle.tc_blocks.specs.Prelude.{IsReadIn}
 use Rattle.tc_judge.specs.Prelude.{AreToRun}
 use Rattle.tc_program.specs.{Answer.AnswersWords, Limits.limit_of}
 
@@ -22,4 +19,4 @@ IsNotBegun task text s outcome = ⊥
 abbrev pub IsAnsweredAlone : List (List ℕ) → Option (List ℕ) → Streams → Type 0 → Type 0 → Outcome → Type 0
 IsAnsweredAlone words input s Unread Unwritten outcome =
     AnswersWords false words input s Unread Unwritten outcome
-    ⊎ ((task : Task) × IsReading false words (Ok task) × IsRead (limit_of task) input (λ text. IsNotBegun task text s outcome))
+    ⊎ ((task : Task) × IsReading false words (Ok task) × IsReadIn (limit_of task) input (λ text. IsNotBegun task text s outcome))

@@ -2,19 +2,12 @@
 use Rattle.std.specs.Prelude.{ℕ, ◌≡◌, ◌≢◌, ◌⊎◌, Bool, List, Option, Result, IfOk, IfErr, OnErr, codes}
 use Rattle.std.specs.{Io.KnownBytes.Appends, Io.KnownBytes.Keeps, declared.io.ErrorKind.ErrorKind as IoKind}
 use Rattle.std.specs.declared.io.ErrorKind.TheVariants as IoKinds
-use Rattle.clap.specs.Values.{kind_of}
-use Rattle.clap.specs.declared.error.kind.ErrorKind.{ErrorKind}
+use Rattle.clap.specs.{Values.kind_of, declared.error.kind.ErrorKind.ErrorKind}
 use Rattle.clap.specs.declared.error.kind.ErrorKind.TheVariants as Kinds
-use Rattle.tc_command.specs.declared.{read.Refused.Refused, task.Task.Task}
-use Rattle.tc_command.specs.Prelude.{IsReading, word_fault_text}
-use Rattle.tc_answer.specs.declared.{fault.RunFault.RunFault, outcome.Outcome.Outcome}
-use Rattle.tc_answer.specs.Prelude.{run_fault_line, said, Streams, IsPrintedRefusal, IsTold}
+use Rattle.tc_command.specs.{declared.{read.Refused.Refused, task.Task.Task}, Prelude.{IsReading, word_fault_text}}
+use Rattle.tc_answer.specs.{declared.{fault.RunFault.RunFault, outcome.Outcome.Outcome}, Prelude.{run_fault_line, said, Streams, IsPrintedRefusal, IsTold}}
 use Rattle.tc_run.specs.Prelude.{LeavesUnwritten}
 use Rattle.tc_program.specs.Program.{IsCarriedOut}
-
--- the arguments are refused, and not because memory ran out; they ask neither for help nor for the version
-abbrev pub IsMistake : ErrorKind → Type 0
-IsMistake kind = (kind ≢ Kinds.DisplayHelp) × (kind ≢ Kinds.DisplayVersion) × (kind ≢ Kinds.OutOfMemory)
 
 -- help or the version was asked for: some text was written and the status is 0, or it was not written whole, and that
 -- is printed
@@ -34,7 +27,7 @@ IsUnreadInput kind untold told outcome = (outcome.status ≡ 3) × IsTold untold
 pub record IsNoTask (kind : ErrorKind) (streams : Streams) (Unwritten : Type 0) (outcome : Outcome) : Type 0 where
   pub help : kind ≡ Kinds.DisplayHelp → IsHelped streams outcome
   pub version : kind ≡ Kinds.DisplayVersion → IsHelped streams outcome
-  pub mistake : IsMistake kind → ((text : List ℕ) × IsPrintedRefusal streams.untold streams.told text outcome) × Unwritten
+  pub mistake : (kind ≢ Kinds.DisplayHelp) × (kind ≢ Kinds.DisplayVersion) × (kind ≢ Kinds.OutOfMemory) → ((text : List ℕ) × IsPrintedRefusal streams.untold streams.told text outcome) × Unwritten
   pub memory : kind ≡ Kinds.OutOfMemory → IsPrintedRefusal streams.untold streams.told (run_fault_line RunFault.NoMemory) outcome × Unwritten
 
 -- the same of any arguments that are refused: if a value names nothing, the line says so, and nothing was written

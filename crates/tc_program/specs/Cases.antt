@@ -1,14 +1,11 @@
 -- What a program with test cases of its own does with its arguments.
-use Rattle.std.specs.Prelude.{ℕ, ◌≡◌, List, MatchResult, Result, IsOkAnd}
-use Rattle.std.specs.Global.{Vec}
+use Rattle.std.specs.{Prelude.{ℕ, ◌≡◌, List, MatchResult, Result, IsOkAnd}, Global.Vec}
 use Rattle.tc_book.specs.Prelude.{PassState}
 use Rattle.tc_campaign.specs.Prelude.{AreBack, IsCalled, outline_of}
-use Rattle.tc_answer.specs.Prelude.{case_name, AreChosenOf, LackName, run_fault_line, IsPrintedRefusal, Streams}
+use Rattle.tc_answer.specs.{Prelude.{case_name, AreChosenOf, LackName, run_fault_line, IsPrintedRefusal, Streams}, declared.{fault.RunFault.RunFault, outcome.Outcome.Outcome, reply.Answer.Answer}}
 use Rattle.tc_exec.specs.declared.{job.Back.Back, test_case.Case.Case}
-use Rattle.tc_command.specs.Prelude.{IsCasesReading}
-use Rattle.tc_command.specs.declared.task.{Choice.Choice, Task.Task}
+use Rattle.tc_command.specs.{Prelude.IsCasesReading, declared.task.{Choice.Choice, Task.Task}}
 use Rattle.tc_run.specs.Prelude.{RunsCases}
-use Rattle.tc_answer.specs.declared.{fault.RunFault.RunFault, outcome.Outcome.Outcome, reply.Answer.Answer}
 use Rattle.tc_program.specs.{Answer.IsAnsweredBy, Made.IsListed, Program.IsDoneBy}
 
 -- these are the test cases that were made

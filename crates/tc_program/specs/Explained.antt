@@ -1,23 +1,25 @@
 -- What is printed about a text that is refused.
-use Rattle.std.specs.Prelude.{ℕ, Bool, MatchBool, true, false, ◌≡◌, ◌&&◌, Option, List, []}
-use Rattle.std.specs.Option.{option_map_or}
+use Rattle.std.specs.{Prelude.{ℕ, Bool, MatchBool, true, false, ◌≡◌, ◌&&◌, not, Option, List, []}, Option.option_map_or}
 use Rattle.tc_explain.specs.Prelude.{explanation}
 use Rattle.tc_text.specs.Prelude.{TellsAmong}
 use Rattle.tc_command.specs.declared.task.Task.{Task}
-use Rattle.tc_answer.specs.declared.{fault.RunFault.RunFault, outcome.Outcome.Outcome}
-use Rattle.tc_answer.specs.Prelude.{blocks_part, script_part, run_fault_line, IsPrintedRefusal, number_of}
-use Rattle.tc_program.specs.Limits.{has_blocks}
+use Rattle.tc_answer.specs.{declared.{fault.RunFault.RunFault, outcome.Outcome.Outcome}, Prelude.{blocks_part, script_part, run_fault_line, IsPrintedRefusal, number_of}}
+use Rattle.tc_program.specs.Limits.{has_blocks, is_long}
 
 -- the task is asked to explain a fault of its text
+abbrev pub asks_why : Task → Bool
+asks_why (Task.Replay asked) = asked
+asks_why (Task.Check choice asked) = asked
+asks_why (Task.Compare form choice asked) = asked
+asks_why (Task.Report form choice asked) = asked
+asks_why (Task.List choice asked) = asked
+asks_why (Task.Run o) = o.explains
+asks_why (Task.Explore o) = o.explains
+asks_why Task.Serve = false
+
+-- the task explains a fault of its text, which it has then
 abbrev pub explains : Task → Bool
-explains (Task.Replay asked) = asked
-explains (Task.Check choice asked) = asked
-explains (Task.Compare form choice asked) = asked
-explains (Task.Report form choice asked) = asked
-explains (Task.List choice asked) = asked
-explains (Task.Run o) = o.explains
-explains (Task.Explore o) = o.explains
-explains Task.Serve = false
+explains task = asks_why task && not (is_long task)
 
 -- the part of a text that the lines of this fault are counted in: all of it, or, of a script with blocks after it, the script
 -- or the blocks
@@ -31,13 +33,9 @@ abbrev pub is_of_text : RunFault → Bool
 is_of_text RunFault.NoMemory = false
 is_of_text fault = true
 
--- this is printed for the text of a task that has this fault: its line, and if it is explained lines after it, among which are
+-- the outcome of a task whose text has this fault: its line is printed, and if it is explained lines after it, among which are
 -- those that explain the line of the text
-abbrev pub IsToldOf : Task → List ℕ → RunFault → List ℕ → Type 0
-IsToldOf task text fault told =
-    MatchBool (explains task && is_of_text fault)
-    (TellsAmong (option_map_or (explanation (part_of (has_blocks task) fault text)) (number_of fault) []) (run_fault_line fault) told) (told ≡ run_fault_line fault)
-
--- the outcome of a task whose text has this fault: that is printed
 abbrev pub IsExplained : Task → List ℕ → RunFault → Option (List ℕ) → Option (List ℕ) → Outcome → Type 0
-IsExplained task text fault before after outcome = (told : List ℕ) × IsToldOf task text fault told × IsPrintedRefusal before after told outcome
+IsExplained task text fault before after outcome = (told : List ℕ) × MatchBool (explains task && is_of_text fault)
+    (TellsAmong (option_map_or (explanation (part_of (has_blocks task) fault text)) (number_of fault) []) (run_fault_line fault) told) (told ≡ run_fault_line fault)
+    × IsPrintedRefusal before after told outcome

@@ -1,12 +1,11 @@
 -- What `explore` writes: the overall verdicts that were found of each test case of a script, or the histories that witness them.
-use Rattle.std.specs.Prelude.{MatchBool, ℕ, ◌≡◌, ◌==◌, ◌≤◌, if◌then◌else◌, Bool, List, [], ◌++◌, length}
-use Rattle.std.specs.List.{AllZip, flat_map, list_any}
+use Rattle.std.specs.{Prelude.{MatchBool, ℕ, ◌≡◌, ◌==◌, ◌≤◌, if◌then◌else◌, Bool, List, [], ◌++◌, length, map, take}, List.{AllZip, flat_map, list_any}}
 use Rattle.tc_command.specs.declared.task.ExploreOptions.{ExploreOptions}
 use Rattle.tc_reader.specs.Prelude.{CampaignView}
+use Rattle.tc_blocks.specs.declared.header.Kind.{Kind}
 use Rattle.tc_explore.specs.Prelude.{IsAtLimit, most_states, AreFromBest, AreAllMet, AreReached, HasCourses, AllLocalsFound, AreLocals}
 use Rattle.tc_explored.specs.Prelude.{details as of_details, locals_text, explored_line, explored_status, witnesses_text}
-use Rattle.tc_course.specs.Prelude.{AllFound, AreLegal, AreWitnesses}
-use Rattle.tc_course.specs.declared.found.{Ending.Ending, Explored.Explored, Limit.Limit, Locals.Locals}
+use Rattle.tc_course.specs.{Prelude.{AllFound, AreLegal, AreWitnesses}, declared.found.{Ending.Ending, Explored.Explored, Limit.Limit, Locals.Locals}}
 use Rattle.tc_step.specs.Prelude.{ScriptView}
 use Rattle.tc_judge.specs.Prelude.{AreToRun}
 use Rattle.tc_answer.specs.Prelude.{CaseView, scripts_of}
@@ -24,11 +23,12 @@ pub record TellsLocals (states : ℕ) (scripts : List ScriptView) (before after 
   pub undecided : (l : Limit) → locals.ending ≡ Ending.Undecided l → 1 ≤ length scripts → IsAtLimit scripts states locals.states l
   pub told : after ≡ before ++ locals_text locals
 
--- what is printed after the line of a test case: its local verdicts, and its details, if they are asked for
-abbrev pub TellsAfter : ExploreOptions → List ScriptView → Explored → List ℕ → Type 0
-TellsAfter o scripts e text =
+-- what is printed after the line of a test case with these names of behaviours: its local verdicts, and its details, if they
+-- are asked for
+abbrev pub TellsAfter : ExploreOptions → List (List ℕ) → List ScriptView → Explored → List ℕ → Type 0
+TellsAfter o names scripts e text =
     (middle : List ℕ) × MatchBool o.locals (TellsLocals o.states scripts [] middle) (middle ≡ [])
-    × (text ≡ middle ++ (if o.details then of_details scripts e else []))
+    × (text ≡ middle ++ (if o.details then of_details names scripts e else []))
 
 -- A test case was explored, and each verdict that was found has one witness: a complete course of its scripts, which is legal.
 -- If the search says that it is complete, the verdict of each complete course of its scripts was found. If it says that it is
@@ -36,6 +36,7 @@ TellsAfter o scripts e text =
 -- steps as it reaches. For each state that it looked at there is a course of its own, in which no run carries out more.
 pub record IsExplored (o : ExploreOptions) (c : CaseView) (e : ExploredCase) : Type 0 where
   pub name : e.name ≡ c.0
+  pub names : e.names ≡ map (λ b. b.0) c.1
   pub behaviours : e.behaviours ≡ length c.1
   pub sound : AreWitnesses (scripts_of c.1) e.explored.found
   pub legal : AreLegal (scripts_of c.1) e.explored.found
@@ -46,11 +47,19 @@ pub record IsExplored (o : ExploreOptions) (c : CaseView) (e : ExploredCase) : T
   pub most : e.explored.states ≤ most_states (scripts_of c.1) o.states
   pub undecided : (l : Limit) → e.explored.ending ≡ Ending.Undecided l → 1 ≤ length (scripts_of c.1) → IsAtLimit (scripts_of c.1) o.states e.explored.states l
   pub told : (l : Limit) → e.explored.ending ≡ Ending.Undecided l → 1 ≤ length (scripts_of c.1) → 1 ≤ length e.explored.found
-  pub details_are : TellsAfter o (scripts_of c.1) e.explored e.details
+  pub details_are : TellsAfter o e.names (scripts_of c.1) e.explored e.details
 
--- what is written of a test case: its line and its details, or the histories of its witnesses
-abbrev pub explored_text : Bool → ExploredCase → List ℕ
-explored_text histories e = if histories then witnesses_text e.name e.behaviours e.explored else explored_line e.name e.explored ++ e.details
+-- the witnesses of a test case as blocks of this kind, with these names of behaviours
+abbrev pub witness_blocks : Kind → List (List ℕ) → ExploredCase → List ℕ
+witness_blocks kind names e = witnesses_text (record { kind = kind; name = e.name; behaviours = e.behaviours }) names e.explored
+
+-- what is written of a test case: its line and its details, or its witnesses as histories, or as evidence with the names of its
+-- behaviours
+abbrev pub explored_text : ExploreOptions → ExploredCase → List ℕ
+explored_text o e =
+    if o.histories then witness_blocks Kind.History2 [] e
+    else if o.evidence then witness_blocks Kind.Evidence (take e.behaviours e.names) e
+    else explored_line e.name e.explored ++ e.details
 
 -- some test case has this status
 abbrev pub has_status : ℕ → List ExploredCase → Bool
@@ -67,5 +76,5 @@ pub record Explores (o : ExploreOptions) (text out : List ℕ) (status : ℕ) : 
   pub explored : List ExploredCase
   pub asked : AreToRun o.choice text cases
   pub each : AllZip (IsExplored o) cases explored
-  pub out_is : out ≡ flat_map (explored_text o.histories) explored
+  pub out_is : out ≡ flat_map (explored_text o) explored
   pub status_is : status ≡ status_of_all explored

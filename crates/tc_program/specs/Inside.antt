@@ -1,22 +1,20 @@
 -- What the functions inside of the program say, which no public clause names.
-use Rattle.std.specs.Prelude.{ℕ, ◌≡◌, ◌≢◌, All, Bool, MatchBool, false, Option, Result, Ok, Err, MatchResult, List, [], ◌∷◌, ◌++◌, length, map, reverse}
-use Rattle.std.specs.{Io.KnownBytes.Appends, Io.KnownBytes.Keeps, List.flat_map, Option.option_map_or}
+use Rattle.std.specs.{Prelude.{ℕ, ◌≡◌, ◌≢◌, ◌&&◌, All, Bool, MatchBool, false, Option, Result, Ok, Err, MatchResult, List, [], ◌∷◌, ◌++◌, length, map, reverse}, Io.KnownBytes.{Appends, Keeps}, List.flat_map, Option.option_map_or}
+use Rattle.clap.specs.declared.error.kind.ErrorKind.{ErrorKind}
+use Rattle.clap.specs.declared.error.kind.ErrorKind.TheVariants as Kinds
 use Rattle.tc_explain.specs.Prelude.{explanation}
 use Rattle.tc_rules.specs.Prelude.{IsName, Entry, StandsFor, answer, IsOneHistory, name_of}
-use Rattle.tc_stream.specs.Prelude.{IsRead, AppendsPrefix}
-use Rattle.tc_text.specs.Prelude.{Move, Line, reply_text}
+use Rattle.tc_stream.specs.Prelude.{AppendsPrefix}
+use Rattle.tc_text.specs.Prelude.{Move, Line, TellsAmong, reply_text}
 use Rattle.tc_step.specs.Prelude.{ScriptView}
-use Rattle.tc_blocks.specs.Prelude.{AreEntries, AreLines, IsHeader}
-use Rattle.tc_blocks.specs.declared.header.Kind.{Kind}
-use Rattle.tc_report.specs.{Inside.case_lines, declared.results.Finished.Finished, declared.results.Results.Results}
-use Rattle.tc_report.specs.Prelude.{finished_header}
+use Rattle.tc_blocks.specs.{Prelude.{AreEntries, AreLines, IsHeader, IsReadIn}, declared.header.Kind.Kind}
+use Rattle.tc_report.specs.{Inside.{case_lines, finished_header}, declared.results.{Finished.Finished, Results.Results}}
 use Rattle.tc_exec.specs.declared.test_case.Case.{Case}
-use Rattle.tc_answer.specs.Prelude.{CaseView, Streams, held_streams}
-use Rattle.tc_answer.specs.{Inside.IsCaseOf, declared.fault.RunFault.RunFault, declared.outcome.Outcome.Outcome, declared.reply.Answer.Answer}
+use Rattle.tc_answer.specs.{Prelude.{CaseView, Streams, held_streams, number_of, run_fault_line}, Inside.IsCaseOf, declared.{fault.RunFault.RunFault, outcome.Outcome.Outcome, reply.Answer.Answer}}
 use Rattle.tc_judge.specs.Prelude.{IsMadeOfInput, legal_line}
-use Rattle.tc_command.specs.declared.{read.Refused.Refused, task.ExploreOptions.ExploreOptions, task.Task.Task}
+use Rattle.tc_command.specs.declared.{read.Refused.Refused, task.{ExploreOptions.ExploreOptions, Task.Task}}
 use Rattle.tc_run.specs.Prelude.{LeavesUnwritten}
-use Rattle.tc_program.specs.{Alone.IsNotBegun, Answer.IsRefused, Explained.explains, Explore.IsExplored, Explore.TellsLocals, Limits.limit_of, Made.IsMade, Program.IsDone, declared.explore.ExploredCase.ExploredCase, declared.replaying.Replaying.Replaying}
+use Rattle.tc_program.specs.{Alone.IsNotBegun, Answer.IsRefused, Explained.{explains, is_of_text, part_of}, Explore.{IsExplored, TellsLocals}, Limits.{has_blocks, limit_of}, Made.IsMade, Program.IsDone, declared.{explore.ExploredCase.ExploredCase, replaying.Replaying.Replaying}}
 
 -- the caller, and the call
 abbrev pub move_of : Entry → Move
@@ -37,6 +35,12 @@ legal_case f = legal_line f.name (length f.report.history) f.report.verdict
 -- what is explained of the text at least, if something is
 abbrev pub notes_of : Option ℕ → List ℕ → List Line
 notes_of number text = option_map_or (explanation text) number []
+
+-- this is printed for the text of a task that has this fault
+abbrev pub IsToldOf : Task → List ℕ → RunFault → List ℕ → Type 0
+IsToldOf task text fault told =
+    MatchBool (explains task && is_of_text fault) (TellsAmong (notes_of (number_of fault) (part_of (has_blocks task) fault text)) (run_fault_line fault) told)
+    (told ≡ run_fault_line fault)
 
 -- the names of the test case and of its behaviours are names, and the numbers in its history are those of their types, so
 -- they are entries of format 2
@@ -92,7 +96,7 @@ WritesTo task text before after (Err fault) = Refuses task text fault × Keeps b
 
 -- the task is a run of test cases that the input spells, and was not begun
 abbrev pub IsUnbegun : Task → Option (List ℕ) → Streams → Outcome → Type 0
-IsUnbegun task input s outcome = IsRead (limit_of task) input (λ text. IsNotBegun task text s outcome)
+IsUnbegun task input s outcome = IsReadIn (limit_of task) input (λ text. IsNotBegun task text s outcome)
 
 -- by this, a task is done if this is made of its text
 abbrev pub Finishes : Task → List ℕ → Result Answer RunFault → Streams → Outcome → Type 0
@@ -103,6 +107,10 @@ abbrev pub IsOfCases : Task → Type 0
 IsOfCases (Task.Run o) = Unit {0}
 IsOfCases (Task.List choice explains) = Unit {0}
 IsOfCases task = ⊥
+
+-- the arguments are refused, and not because memory ran out; they ask neither for help nor for the version
+abbrev pub IsMistake : ErrorKind → Type 0
+IsMistake kind = (kind ≢ Kinds.DisplayHelp) × (kind ≢ Kinds.DisplayVersion) × (kind ≢ Kinds.OutOfMemory)
 
 -- by this answer some text was written whole; without memory nothing was, if the writer failed a prefix
 abbrev pub ShowsText : Option (List ℕ) → Option (List ℕ) → Result (Unit {0}) RunFault → Type 0

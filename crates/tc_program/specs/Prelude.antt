@@ -1,5 +1,3 @@
 -- What other crates cite of these definitions.
-pub use Rattle.tc_program.specs.Alone.{IsAnsweredAlone}
-pub use Rattle.tc_program.specs.Answer.{IsNoTask, IsRefused, IsUnreadInput}
-pub use Rattle.tc_answer.specs.Prelude.{Streams}
-pub use Rattle.tc_answer.specs.declared.outcome.Outcome.{Outcome}
+pub use Rattle.tc_program.specs.{Alone.IsAnsweredAlone, Answer.{IsNoTask, IsRefused, IsUnreadInput}}
+pub use Rattle.tc_answer.specs.{Prelude.Streams, declared.outcome.Outcome.Outcome}

@@ -1,23 +1,17 @@
 -- What the program does with what it is asked for: what it writes, its statuses, and its lines on standard error.
-use Rattle.std.specs.Prelude.{ℕ, ◌≡◌, ◌⊎◌, List, Result, Ok, Err, Option}
-use Rattle.std.specs.Io.KnownBytes.{Appends, Keeps}
-use Rattle.tc_stream.specs.Prelude.{AppendsPrefix, IsRead}
+use Rattle.std.specs.{Prelude.{ℕ, ◌≡◌, ◌⊎◌, List, Result, Ok, Err, Option}, Io.KnownBytes.Keeps}
+use Rattle.tc_blocks.specs.Prelude.{IsReadIn}
 use Rattle.tc_command.specs.declared.task.{RunOptions.RunOptions, Task.Task}
-use Rattle.tc_answer.specs.declared.{fault.RunFault.RunFault, outcome.Outcome.Outcome, reply.Answer.Answer}
-use Rattle.tc_answer.specs.Prelude.{run_fault_line, IsUnread, Streams, IsPrintedRefusal, IsTold}
+use Rattle.tc_answer.specs.{declared.{fault.RunFault.RunFault, outcome.Outcome.Outcome, reply.Answer.Answer}, Prelude.{run_fault_line, GivesAnswer, Streams, IsPrintedRefusal}}
 use Rattle.tc_run.specs.Prelude.{AreScriptsBack, script_outline, IsScripted, RunsCases}
-use Rattle.tc_judge.specs.Prelude.{AreToRun}
+use Rattle.tc_judge.specs.Prelude.{AreToRun, IsUnreadIn}
 use Rattle.tc_program.specs.{Explained.IsExplained, Limits.limit_of, Made.IsMade, Serve.Serves}
 
 -- what the program does with a task, by what the task makes of what is given, what is printed of its refusal, and what a
 -- run of it is
 pub data IsDoneBy (task : Task) (Makes : Result Answer RunFault → Type 0) (Refuses : RunFault → Type 0) (Runs : RunOptions → Type 0) (s : Streams) (outcome : Outcome) : Type 0 where
-  -- what is made was written, and what is due on standard error printed; the status is its
-  whole : (a : Answer) → Makes (Ok a) → Appends s.before s.after a.out → IsTold s.untold s.told a.told outcome.told → outcome.status ≡ a.status
-      → IsDoneBy task Makes Refuses Runs s outcome
-  -- the writer failed: a prefix of it was written, and that is printed
-  part : (a : Answer) → Makes (Ok a) → AppendsPrefix s.before s.after a.out → IsPrintedRefusal s.untold s.told (run_fault_line RunFault.Write) outcome
-      → IsDoneBy task Makes Refuses Runs s outcome
+  -- what is made was written, and what is due on standard error printed; or the writer failed
+  made : (a : Answer) → Makes (Ok a) → GivesAnswer a s outcome → IsDoneBy task Makes Refuses Runs s outcome
   -- what is given is refused: nothing was written, and why is printed
   refused : (fault : RunFault) → Makes (Err fault) → Keeps s.before s.after → Refuses fault → IsDoneBy task Makes Refuses Runs s outcome
   -- a campaign was run, and its results were written whole or not
@@ -35,5 +29,5 @@ IsDone task text s outcome =
 abbrev pub IsCarriedOut : Task → Option (List ℕ) → Streams → Outcome → Type 0
 IsCarriedOut Task.Serve input s outcome = Serves input s outcome
 IsCarriedOut task input s outcome =
-    IsRead (limit_of task) input (λ text. IsDone task text s outcome)
-    ⊎ ((fault : RunFault) × IsUnread (limit_of task) input fault × Keeps s.before s.after × IsPrintedRefusal s.untold s.told (run_fault_line fault) outcome)
+    IsReadIn (limit_of task) input (λ text. IsDone task text s outcome)
+    ⊎ ((fault : RunFault) × IsUnreadIn (limit_of task) input fault × Keeps s.before s.after × IsPrintedRefusal s.untold s.told (run_fault_line fault) outcome)

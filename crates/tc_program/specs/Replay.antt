@@ -1,6 +1,5 @@
 -- What `replay` prints for a move list.
-use Rattle.std.specs.Prelude.{ℕ, ◌≡◌, List, [], ◌∷◌, ◌++◌, map, reverse}
-use Rattle.std.specs.List.{flat_map}
+use Rattle.std.specs.{Prelude.{ℕ, ◌≡◌, List, [], ◌∷◌, ◌++◌, map, reverse}, List.flat_map}
 use Rattle.tc_rules.specs.Prelude.{Entry, IsLegal, overall}
 use Rattle.tc_text.specs.Prelude.{reply_text, IsMoveList}
 use Rattle.tc_report.specs.Prelude.{verdict_line, verdict_status}

@@ -1,11 +1,8 @@
 -- What `serve` writes, prints and ends with.
-use Rattle.std.specs.Prelude.{ℕ, ◌≡◌, Bool, true, false, if◌then◌else◌, List, Option, Result, Ok, Err}
-use Rattle.std.specs.Io.KnownBytes.{Keeps}
+use Rattle.std.specs.{Prelude.{ℕ, ◌≡◌, Bool, true, false, if◌then◌else◌, List, Option, Result, Ok, Err}, Io.KnownBytes.Keeps}
 use Rattle.tc_report.specs.Prelude.{verdict_status}
-use Rattle.tc_serve.specs.declared.{service.ServeFault.ServeFault, service.Ending.Ending, service.Served.Served}
-use Rattle.tc_serve.specs.Prelude.{IsServiceEnd, devices, refused_line_text}
-use Rattle.tc_answer.specs.declared.{fault.RunFault.RunFault, outcome.Outcome.Outcome}
-use Rattle.tc_answer.specs.Prelude.{run_fault_line, Streams, IsPrintedRefusal}
+use Rattle.tc_serve.specs.{declared.service.{ServeFault.ServeFault, Ending.Ending, Served.Served}, Prelude.{IsServiceEnd, devices, refused_line_text}}
+use Rattle.tc_answer.specs.{declared.{fault.RunFault.RunFault, outcome.Outcome.Outcome}, Prelude.{run_fault_line, Streams, IsPrintedRefusal}}
 
 -- the line of a fault that ended a service
 abbrev pub service_line : ServeFault → List ℕ

@@ -1,20 +1,20 @@
 //! What the program does with its arguments where no thread can be started.
-ghost use Rattle.std.specs.Prelude.{◌≡◌, ◌≢◌, ◌⊎◌, IfOk, IfErr, OnErr, map, string_bytes};
+ghost use Rattle.std.specs.Prelude.{◌≡◌, ◌≢◌, ◌⊎◌, false, IfOk, IfErr, OnErr, map, string_bytes};
 ghost use Rattle.std.specs.IoError.{error_kind};
 ghost use Rattle.tc_command.specs.declared.task.Task.TheVariants.{Run, Serve};
 ghost use Rattle.tc_answer.specs.Prelude.{held_streams};
-ghost use Rattle.tc_program.specs.{Alone.IsAnsweredAlone, Alone.IsNotBegun, Answer.IsUnreadInput, Inside.IsUnbegun, Program.IsCarriedOut, Program.IsDone};
+ghost use Rattle.tc_program.specs.{Alone.IsAnsweredAlone, Alone.IsNotBegun, Answer.IsUnreadInput, Inside.IsUnbegun, Limits.is_long, Program.IsCarriedOut, Program.IsDone};
 
 use crate::answering::{answer_refused, answer_unread};
-use crate::carrying_out::made_text;
+use crate::carrying_out::{made_in_parts, made_text};
 use crate::explained::refuse_text;
-use crate::limits::limit_of;
+use crate::limits::text_limit;
 use crate::made::finish;
 use crate::serve::serve_input;
 use std::alloc::Global;
 use std::io;
 use std::io::{Read, Write};
-use tc_answer::{Outcome, read_text, refuse, refuse_words};
+use tc_answer::{Outcome, give_answer, read_text, refuse, refuse_words};
 use tc_command::{RunOptions, Task, read_task};
 use tc_judge::cases_to_run;
 
@@ -67,6 +67,25 @@ fn do_text<W: Write, E: Write>(
     }
 }
 
+// Does what the task asks for with its input, which is read whole first, but begins no run.
+fn do_input<I: Read, W: Write, E: Write>(
+    alloc: Global,
+    task: &Task,
+    reader: &mut I,
+    writer: &mut W,
+    errors: &mut E,
+) -> Outcome
+    requires other { task.now ≢ Serve }
+    requires kept { is_long task.now ≡ false }
+    ensures { IsCarriedOut task.now (I.remaining reader.old) (held_streams W.contents writer.old writer.new E.contents errors.old errors.new) result
+        ⊎ IsUnbegun task.now (I.remaining reader.old) (held_streams W.contents writer.old writer.new E.contents errors.old errors.new) result }
+{
+    match read_text(alloc, reader, text_limit(task)) {
+        Ok(text) => do_text(alloc, task, text.as_slice(), writer, errors),
+        Err(fault) => refuse(alloc, errors, fault),
+    }
+}
+
 // Does what the task asks for with its input, but begins no run.
 fn carry_out<I: Read, W: Write, E: Write>(
     alloc: Global,
@@ -81,9 +100,10 @@ fn carry_out<I: Read, W: Write, E: Write>(
     if let Task::Serve = task {
         return serve_input(alloc, reader, writer, errors);
     }
-    match read_text(alloc, reader, limit_of(task)) {
-        Ok(text) => do_text(alloc, task, text.as_slice(), writer, errors),
-        Err(fault) => refuse(alloc, errors, fault),
+    match made_in_parts(alloc, task, reader) {
+        Some(Ok(answer)) => give_answer(alloc, &answer, writer, errors),
+        Some(Err(fault)) => refuse(alloc, errors, fault),
+        None => do_input(alloc, task, reader, writer, errors),
     }
 }
 

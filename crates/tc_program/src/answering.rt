@@ -5,7 +5,7 @@ ghost use Rattle.clap.specs.Values.{kind_of};
 ghost use Rattle.clap.specs.declared.error.kind.ErrorKind.TheVariants.{DisplayHelp, DisplayVersion, OutOfMemory};
 ghost use Rattle.tc_answer.specs.Prelude.{run_fault_line, IsPrintedRefusal, held_streams};
 ghost use Rattle.tc_answer.specs.declared.fault.RunFault.TheVariants.{NoMemory as WithoutMemory};
-ghost use Rattle.tc_program.specs.{Answer.AnswersWords, Answer.IsHelped, Answer.IsMistake, Answer.IsUnreadInput, Inside.ShowsNoTask, Inside.ShowsText};
+ghost use Rattle.tc_program.specs.{Answer.AnswersWords, Answer.IsHelped, Answer.IsUnreadInput, Inside.IsMistake, Inside.ShowsNoTask, Inside.ShowsText};
 
 use crate::carrying_out::carry_out;
 use clap::Error;
@@ -96,26 +96,34 @@ pub(crate) fn answer_unread<E: Write>(alloc: Global, error: &io::Error, errors: 
     }
 }
 
-/// Does what the arguments ask for, the first of which is the program's name; they may not be available. Faults of the
-/// input are explained if standard error is at a terminal.
+/// The arguments of the program.
+#[derive(Drop)]
+pub struct Arguments {
+    /// The words, the first of which is the program's name; they may not be available.
+    pub words: io::Result<Vec<String>>,
+    /// Whether standard error is at a terminal, where faults of the input are explained.
+    pub at_terminal: bool,
+}
+
+/// Does what the arguments ask for.
 pub fn answer<R, I: Read, W: Write, E: Write>(
     rt: &R,
     alloc: Global,
-    words: io::Result<Vec<String>>,
-    at_terminal: bool,
+    arguments: Arguments,
     reader: &mut I,
     writer: &mut W,
     errors: &mut E,
 ) -> Outcome
 where
     R: Threads + Wait + Clock + Copy + Send + 'static,
-    ensures had { IfOk words (λ given. AnswersWords at_terminal (map string_bytes given.items) (I.remaining reader.old)
+    ensures had { IfOk arguments.words (λ given. AnswersWords arguments.at_terminal (map string_bytes given.items) (I.remaining reader.old)
         (held_streams W.contents writer.old writer.new E.contents errors.old errors.new)
         (reader.new ≡ reader.old) (writer.new ≡ writer.old) result) }
-    ensures not_had { IfErr words (λ error. IsUnreadInput (error_kind error) (E.contents errors.old) (E.contents errors.new) result) }
-    ensures unread { OnErr words (reader.new ≡ reader.old) }
-    ensures unwritten { OnErr words (writer.new ≡ writer.old) }
+    ensures not_had { IfErr arguments.words (λ error. IsUnreadInput (error_kind error) (E.contents errors.old) (E.contents errors.new) result) }
+    ensures unread { OnErr arguments.words (reader.new ≡ reader.old) }
+    ensures unwritten { OnErr arguments.words (writer.new ≡ writer.old) }
 {
+    let Arguments { words, at_terminal } = arguments;
     let words = match words {
         Ok(words) => words,
         Err(error) => return answer_unread(alloc, &error, errors),

@@ -1,14 +1,14 @@
 //! What the program does with a task.
-ghost use Rattle.std.specs.Prelude.{◌≡◌, ◌≢◌, IfErr, IfOk, MatchOption};
+ghost use Rattle.std.specs.Prelude.{◌≡◌, ◌≢◌, false, IfErr, IfOk, MatchOption};
 ghost use Rattle.tc_answer.specs.Inside.{AreReadyAs};
 ghost use Rattle.tc_command.specs.declared.task.Task.TheVariants.{Run, Serve};
 ghost use Rattle.tc_judge.specs.Prelude.{AreToRun, RefusesRun};
 ghost use Rattle.tc_answer.specs.Prelude.{held_streams};
-ghost use Rattle.tc_program.specs.{Inside.IsMadeInParts, Made.IsMade, Program.IsCarriedOut, Program.IsDone};
+ghost use Rattle.tc_program.specs.{Inside.IsMadeInParts, Limits.is_long, Made.IsMade, Program.IsCarriedOut, Program.IsDone};
 
-use crate::explained::refuse_text;
+use crate::explained::{explains, refuse_text};
 use crate::explore::explore_text;
-use crate::limits::limit_of;
+use crate::limits::text_limit;
 use crate::listing::list_text;
 use crate::made::finish;
 use crate::replaying::replay_text;
@@ -20,9 +20,10 @@ use std::thread::Threads;
 use std::time::Clock;
 use tc_answer::{Answer, Outcome, RunFault, give_answer, read_text, refuse};
 use tc_campaign::Case;
-use tc_command::{Choice, ReportForm, RunOptions, Task};
+use tc_command::{Choice, RunOptions, Task};
 use tc_judge::{
-    cases_to_run, check_input, check_text, compare_text, report_compared, report_input, report_text,
+    cases_to_run, check_input, check_text, compare_text, is_of_judged, report_compared,
+    report_input, report_text,
 };
 use tc_run::{fault_of, run_cases, with_jobs};
 use tc_script::ScriptJob;
@@ -39,31 +40,6 @@ fn ready_cases<R: Wait + Copy + Send + 'static>(
 {
     let cases = cases_to_run(alloc, text, choice)?;
     Ok(with_jobs(rt, alloc, cases)?)
-}
-
-// Runs the chosen test cases of the script that the text is, as the task, a run, asks for it.
-fn run_text<R, W: Write, E: Write>(
-    rt: &R,
-    alloc: Global,
-    task: &Task,
-    options: &RunOptions,
-    text: &[u8],
-    writer: &mut W,
-    errors: &mut E,
-) -> Outcome
-where
-    R: Threads + Wait + Clock + Copy + Send + 'static,
-    requires { task.now ≡ Run options.now }
-    ensures { IsDone task.now text.now (held_streams W.contents writer.old writer.new E.contents errors.old errors.new) result }
-{
-    let cases = match ready_cases(rt, alloc, text, &options.choice) {
-        Ok(cases) => cases,
-        Err(fault) => return refuse_text(alloc, errors, task, text, fault),
-    };
-    match run_cases(rt, alloc, cases, options, writer, errors) {
-        Ok(outcome) => outcome,
-        Err(fault) => refuse(alloc, errors, fault_of(fault)),
-    }
 }
 
 /// What is made of the text for a task that is no run.
@@ -106,37 +82,45 @@ where
     requires { task.now ≢ Serve }
     ensures { IsDone task.now text.now (held_streams W.contents writer.old writer.new E.contents errors.old errors.new) result }
 {
-    match task {
-        Task::Run(options) => run_text(rt, alloc, task, options, text, writer, errors),
-        _ => finish(
-            alloc,
-            task,
-            text,
-            made_text(alloc, task, text),
-            writer,
-            errors,
-        ),
+    let Task::Run(options) = task else {
+        let made = made_text(alloc, task, text);
+        return finish(alloc, task, text, made, writer, errors);
+    };
+    let cases = match ready_cases(rt, alloc, text, &options.choice) {
+        Ok(cases) => cases,
+        Err(fault) => return refuse_text(alloc, errors, task, text, fault),
+    };
+    match run_cases(rt, alloc, cases, options, writer, errors) {
+        Ok(outcome) => outcome,
+        Err(fault) => refuse(alloc, errors, fault_of(fault)),
     }
 }
 
-// What is made of the input part by part, if neither an explanation nor the form needs its text.
-fn made_in_parts<I: Read>(
+/// What is made of the input part by part, if neither an explanation nor the form needs its text.
+pub(crate) fn made_in_parts<I: Read>(
     alloc: Global,
     task: &Task,
     reader: &mut I,
 ) -> Option<Result<Answer, RunFault>>
-    ensures { MatchOption result (reader.new ≡ reader.old) (IsMadeInParts task.now (I.remaining reader.old)) }
+    ensures { MatchOption result ((reader.new ≡ reader.old) × (is_long task.now ≡ false)) (IsMadeInParts task.now (I.remaining reader.old)) }
 {
+    if explains(task) {
+        return None;
+    }
     match task {
-        Task::Check { choice, explains } if !*explains => Some(check_input(alloc, choice, reader)),
-        Task::Report {
-            form,
-            choice,
-            explains,
-        } if !*explains && *form != ReportForm::Html => {
+        Task::Check { choice, .. } => Some(check_input(alloc, choice, reader)),
+        Task::Report { form, choice, .. } => {
+            if !is_of_judged(form) {
+                return None;
+            }
             Some(report_input(alloc, form, choice, reader))
         }
-        _ => None,
+        Task::Replay { .. }
+        | Task::Run(_)
+        | Task::Serve
+        | Task::List { .. }
+        | Task::Compare { .. }
+        | Task::Explore(_) => None,
     }
 }
 
@@ -151,10 +135,11 @@ fn do_input<R, I: Read, W: Write, E: Write>(
 ) -> Outcome
 where
     R: Threads + Wait + Clock + Copy + Send + 'static,
-    requires { task.now ≢ Serve }
+    requires other { task.now ≢ Serve }
+    requires kept { is_long task.now ≡ false }
     ensures { IsCarriedOut task.now (I.remaining reader.old) (held_streams W.contents writer.old writer.new E.contents errors.old errors.new) result }
 {
-    match read_text(alloc, reader, limit_of(task)) {
+    match read_text(alloc, reader, text_limit(task)) {
         Ok(text) => do_text(rt, alloc, task, text.as_slice(), writer, errors),
         Err(fault) => refuse(alloc, errors, fault),
     }

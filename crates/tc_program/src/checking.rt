@@ -23,13 +23,7 @@ pub fn check<R: Read, W: Write>(
     ensures { (choice : Choice) (explains : Bool) → ChoosesEach choice
         → Does (Check choice explains) (R.remaining reader.old) (W.contents writer.old) (W.contents writer.new) result }
 {
-    let all = Choice {
-        only: Vec::new(alloc),
-        shard: None,
-        failed: false,
-        last: false,
-    };
-    match check_input(alloc, &all, reader) {
+    match check_input(alloc, &Choice::all(alloc), reader) {
         Ok(answer) => write_answer(Ok(answer), writer),
         Err(fault) => Err(fault),
     }

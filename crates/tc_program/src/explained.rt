@@ -4,9 +4,9 @@ ghost use Rattle.std.specs.Option.{option_map};
 ghost use Rattle.tc_explain.specs.Prelude.{explanation};
 ghost use Rattle.tc_text.specs.Prelude.{TellsAmong};
 ghost use Rattle.tc_answer.specs.Prelude.{number_of};
-ghost use Rattle.tc_program.specs.{Explained.IsExplained, Explained.IsToldOf, Explained.explains as spec_explains, Explained.is_of_text as spec_of_text, Explained.part_of as spec_part_of, Inside.notes_of, Limits.has_blocks as spec_blocks};
+ghost use Rattle.tc_program.specs.{Explained.IsExplained, Explained.explains as spec_explains, Explained.is_of_text as spec_of_text, Explained.part_of as spec_part_of, Inside.IsToldOf, Inside.notes_of, Limits.has_blocks as spec_blocks, Explained.asks_why as spec_why};
 
-use crate::limits::has_blocks;
+use crate::limits::{has_blocks, is_long};
 use crate::unknown::{append_unknown, names_of_blocks, names_of_script};
 use std::alloc::Global;
 use std::io::Write;
@@ -17,8 +17,8 @@ use tc_explain::{Refusal, explain};
 use tc_text::{TextFault, TextKind};
 
 // Whether the task is asked to explain a fault of its text.
-fn explains(task: &Task) -> bool
-    ensures { result ≡ spec_explains task.now }
+fn asks_why(task: &Task) -> bool
+    ensures { result ≡ spec_why task.now }
 {
     match task {
         Task::Replay { explains }
@@ -30,6 +30,13 @@ fn explains(task: &Task) -> bool
         Task::Explore(options) => options.explains,
         Task::Serve => false,
     }
+}
+
+/// Whether the task explains a fault of its text, which it has then.
+pub(crate) fn explains(task: &Task) -> bool
+    ensures { result ≡ spec_explains task.now }
+{
+    asks_why(task) && !is_long(task)
 }
 
 // What the text of the task should be, which has a fault of this kind; a script has faults of another.

@@ -6,10 +6,11 @@ ghost use Rattle.tc_course.specs.Prelude.{AreLegal};
 ghost use Rattle.tc_explored.specs.Prelude.{details as of_details};
 ghost use Rattle.tc_judge.specs.Inside.{HasFewJobs};
 ghost use Rattle.tc_judge.specs.Prelude.{RefusesRun};
-ghost use Rattle.tc_program.specs.{Explore.Explores, Explore.TellsAfter, Explore.TellsLocals, Explore.explored_text, Explore.has_status as status_in, Explore.status_of_all, Inside.IsExploredOf, Inside.TellsLocalsIf};
+ghost use Rattle.tc_program.specs.{Explore.Explores, Explore.TellsAfter, Explore.TellsLocals, Explore.explored_text, Explore.witness_blocks, Explore.has_status as status_in, Explore.status_of_all, Inside.IsExploredOf, Inside.TellsLocalsIf};
 
 use std::alloc::Global;
 use tc_answer::{Answer, RunFault};
+use tc_blocks::{Header, Kind};
 use tc_campaign::Case;
 use tc_command::ExploreOptions;
 use tc_entry::{Name, Sequence};
@@ -19,6 +20,7 @@ use tc_explored::{
     explored_status,
 };
 use tc_judge::cases_to_run;
+use tc_report::first_names;
 use tc_step::Script;
 use tc_verdict::NoMemory;
 
@@ -26,6 +28,8 @@ use tc_verdict::NoMemory;
 #[derive(Drop)]
 pub(crate) struct ExploredCase {
     pub(crate) name: Name,
+    /// The names of its behaviours.
+    pub(crate) names: Sequence<Name>,
     pub(crate) behaviours: u16,
     pub(crate) explored: Explored,
     pub(crate) details: Sequence<u8>,
@@ -65,38 +69,40 @@ fn append_locals_if(
     Ok(())
 }
 
-// Appends the details of a test case with these scripts, if they are asked for.
+// Appends the details of a test case with these names of behaviours and these scripts, if they are asked for.
 fn append_details_if(
     alloc: Global,
     out: &mut Vec<u8>,
     details: bool,
+    names: &[Name],
     scripts: &[Script],
     explored: &Explored,
 ) -> Result<(), NoMemory>
     requires few { length scripts.now ≤ BEHAVIOURS }
     requires legal { AreLegal scripts.now explored.now.found }
-    ensures { OnOk result (out.new.items ≡ out.old.items ++ (if details then of_details scripts.now explored.now else [])) }
+    ensures { OnOk result (out.new.items ≡ out.old.items ++ (if details then of_details names.now scripts.now explored.now else [])) }
 {
     if details {
-        append_details(alloc, out, scripts, explored)?;
+        append_details(alloc, out, names, scripts, explored)?;
     }
     Ok(())
 }
 
-// What is printed after the line of a test case with these scripts.
+// What is printed after the line of a test case with these names of behaviours and these scripts.
 fn details_of(
     alloc: Global,
     options: &ExploreOptions,
+    names: &[Name],
     scripts: &[Script],
     explored: &Explored,
 ) -> Result<Vec<u8>, NoMemory>
     requires few { length scripts.now ≤ BEHAVIOURS }
     requires legal { AreLegal scripts.now explored.now.found }
-    ensures { IfOk result (λ text. TellsAfter options.now scripts.now explored.now text.items) }
+    ensures { IfOk result (λ text. TellsAfter options.now names.now scripts.now explored.now text.items) }
 {
     let mut out = Vec::new(alloc);
     append_locals_if(alloc, &mut out, options.locals, scripts, options.states)?;
-    append_details_if(alloc, &mut out, options.details, scripts, explored)?;
+    append_details_if(alloc, &mut out, options.details, names, scripts, explored)?;
     Ok(out)
 }
 
@@ -110,13 +116,13 @@ fn explore_case(
     ensures { IfOk result (IsExploredOf options.now case) }
 {
     let Case { name, names, jobs } = case;
-    drop(names);
     let scripts = jobs.as_slice();
     let behaviours = scripts.len() as u16;
     let explored = explore(alloc, scripts, options.states)?;
-    let details = details_of(alloc, options, scripts, &explored)?;
+    let details = details_of(alloc, options, names.as_slice(), scripts, &explored)?;
     Ok(ExploredCase {
         name,
+        names: Sequence::new(names),
         behaviours,
         explored,
         details: Sequence::new(details),
@@ -139,23 +145,57 @@ fn explore_cases(
     Ok(explored)
 }
 
+// Appends the witnesses of a test case as blocks of this kind, with these names of behaviours.
+fn append_blocks(
+    out: &mut Vec<u8>,
+    kind: Kind,
+    names: &[Name],
+    case: &ExploredCase,
+) -> Result<(), NoMemory>
+    requires { length names.now ≤ u16.MAX }
+    ensures { OnOk result (out.new.items ≡ out.old.items ++ witness_blocks kind names.now case.now) }
+{
+    let header = Header {
+        kind,
+        name: case.name.copy(),
+        behaviours: case.behaviours,
+    };
+    append_witnesses(out, &header, names, &case.explored)
+}
+
+// Appends what is written of a test case.
+fn append_case(
+    alloc: Global,
+    out: &mut Vec<u8>,
+    options: &ExploreOptions,
+    case: &ExploredCase,
+) -> Result<(), NoMemory>
+    ensures { OnOk result (out.new.items ≡ out.old.items ++ explored_text options.now case.now) }
+{
+    if options.histories {
+        return append_blocks(out, Kind::History2, &[], case);
+    }
+    if options.evidence {
+        let names = first_names(case.names.as_slice(), case.behaviours);
+        return append_blocks(out, Kind::Evidence, names, case);
+    }
+    append_line(alloc, out, &case.name, &case.explored)?;
+    out.extend_from_slice(case.details.as_slice())?;
+    Ok(())
+}
+
 // The text of the test cases, and their status.
 fn text_of(
     alloc: Global,
-    histories: bool,
+    options: &ExploreOptions,
     explored: &[ExploredCase],
 ) -> Result<(Vec<u8>, u8), NoMemory>
-    ensures text { IfOk result (λ r. r.0.items ≡ flat_map (explored_text histories) explored.now) }
+    ensures text { IfOk result (λ r. r.0.items ≡ flat_map (explored_text options.now) explored.now) }
     ensures status { IfOk result (λ r. r.1 ≡ status_of_all explored.now) }
 {
     let mut out = Vec::new(alloc);
     for case in explored {
-        if histories {
-            append_witnesses(&mut out, &case.name, case.behaviours, &case.explored)?;
-        } else {
-            append_line(alloc, &mut out, &case.name, &case.explored)?;
-            out.extend_from_slice(case.details.as_slice())?;
-        }
+        append_case(alloc, &mut out, options, case)?;
     }
     Ok((out, status_of(explored)))
 }
@@ -197,6 +237,6 @@ pub(crate) fn explore_text(
 {
     let cases = cases_to_run(alloc, text, &options.choice)?;
     let explored = explore_cases(alloc, cases, options)?;
-    let (out, status) = text_of(alloc, options.histories, explored.as_slice())?;
+    let (out, status) = text_of(alloc, options, explored.as_slice())?;
     Ok(Answer::silent(alloc, out, status))
 }

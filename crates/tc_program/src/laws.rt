@@ -4,6 +4,7 @@ ghost use Rattle.tc_rules.specs.Prelude.{IsName};
 ghost use Rattle.tc_blocks.specs.declared.header.Kind.{Kind};
 ghost use Rattle.tc_command.specs.declared.task.Form.{Form};
 ghost use Rattle.tc_campaign.specs.Prelude.{Outline};
+ghost use Rattle.tc_report.specs.Prelude.{no_times};
 ghost use Rattle.tc_run.specs.Prelude.{results_in_form};
 ghost use Rattle.tc_program.specs.{Inside.FitsItsTypes, Inside.WereRun, WrittenHistories.AreFoundLegal, WrittenHistories.AreReported};
 
@@ -56,9 +57,9 @@ fn were_run(results: &Results)
 /// It is refused only if memory runs out.
 pub fn written_is_legal(results: &Results)
     ensures histories { (cases : List Outline) → AreReported cases results.now
-        → AreFoundLegal (results_in_form Form.History (map (λ c. c.name) cases) results.now) results.now }
+        → AreFoundLegal Kind.History2 (results_in_form Form.History no_times (map (λ c. c.name) cases) results.now) results.now }
     ensures evidence { (cases : List Outline) → AreReported cases results.now
-        → AreFoundLegal (results_in_form Form.Evidence (map (λ c. c.name) cases) results.now) results.now }
+        → AreFoundLegal Kind.Evidence (results_in_form Form.Evidence no_times (map (λ c. c.name) cases) results.now) results.now }
 {
     were_run(results);
 }

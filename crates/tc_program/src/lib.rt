@@ -19,7 +19,7 @@ mod terminal;
 mod unknown;
 
 pub use alone::answer_alone;
-pub use answering::answer;
+pub use answering::{Arguments, answer};
 pub use carrying_out::carry_out;
 pub use checking::check;
 pub use own_cases::answer_cases;

@@ -1,9 +1,10 @@
 //! How many bytes the input of a task may have.
 ghost use Rattle.std.specs.Prelude.{◌≡◌};
-ghost use Rattle.tc_program.specs.Limits.{has_blocks as spec_blocks, limit_of as spec_limit};
+ghost use Rattle.tc_program.specs.Limits.{has_blocks as spec_blocks, is_long as spec_long, text_limit as spec_limit};
 
 use tc_answer::{HISTORY_LIMIT, SCRIPT_LIMIT};
 use tc_command::Task;
+use tc_judge::is_of_judged;
 
 /// Whether the text of the task has histories or evidence after a script.
 pub(crate) fn has_blocks(task: &Task) -> bool
@@ -18,8 +19,19 @@ pub(crate) fn has_blocks(task: &Task) -> bool
     }
 }
 
-/// How many bytes the input of the task may have.
-pub(crate) fn limit_of(task: &Task) -> usize
+/// Whether the histories of the task may be long: its text is not kept.
+pub(crate) fn is_long(task: &Task) -> bool
+    ensures { result ≡ spec_long task.now }
+{
+    match task {
+        Task::Check { choice, .. } => choice.long,
+        Task::Report { form, choice, .. } => choice.long && is_of_judged(form),
+        _ => false,
+    }
+}
+
+/// How many bytes a text of the task may have that is kept.
+pub(crate) fn text_limit(task: &Task) -> usize
     ensures { result ≡ spec_limit task.now }
 {
     match task {

@@ -3,7 +3,6 @@ ghost use Rattle.std.specs.Prelude.{◌≡◌, All, IfOk, IfErr, OnErr, map, str
 ghost use Rattle.std.specs.IoError.{error_kind};
 ghost use Rattle.tc_answer.specs.Prelude.{case_name, AreChosenOf, held_streams};
 ghost use Rattle.tc_campaign.specs.Prelude.{HasNames};
-ghost use Rattle.tc_command.specs.declared.task.Task.TheVariants.{List, Run};
 ghost use Rattle.tc_program.specs.{Answer.IsUnreadInput, Cases.DoesCases, Cases.IsAnsweredWithCases, Cases.RefusesCases, Cases.WereMade, Inside.IsOfCases, Made.IsListed};
 
 use crate::answering::{answer_refused, answer_unread};
@@ -16,7 +15,7 @@ use std::thread::Threads;
 use std::time::Clock;
 use tc_answer::{Answer, Outcome, RunFault, choose_cases, give_answer, refuse};
 use tc_campaign::Case;
-use tc_command::{Choice, RunOptions, Task, read_cases_task};
+use tc_command::{Choice, Task, read_cases_task};
 use tc_exec::Callable;
 use tc_run::{fault_of, run_cases};
 use tc_verdict::NoMemory;
@@ -49,51 +48,6 @@ fn list_of_asked<B: Drop>(
     Ok(listed(alloc, cases.as_slice())?)
 }
 
-// Lists the chosen test cases, as the task asks for it.
-fn list_cases<B: Callable, W: Write, E: Write>(
-    alloc: Global,
-    cases: Result<Vec<Case<B>>, NoMemory>,
-    task: &Task,
-    choice: &Choice,
-    _explains: bool,
-    writer: &mut W,
-    errors: &mut E,
-) -> Outcome
-    requires { task.now ≡ List choice.now _explains }
-    ensures { DoesCases B.outcome (WereMade cases) task.now (held_streams W.contents writer.old writer.new E.contents errors.old errors.new) result }
-{
-    match list_of_asked(alloc, cases, choice) {
-        Ok(answer) => give_answer(alloc, &answer, writer, errors),
-        Err(fault) => refuse(alloc, errors, fault),
-    }
-}
-
-// Runs the chosen test cases, as the task asks for it.
-fn run_asked<R, B: Callable, W: Write, E: Write>(
-    rt: &R,
-    alloc: Global,
-    cases: Result<Vec<Case<B>>, NoMemory>,
-    task: &Task,
-    options: &RunOptions,
-    writer: &mut W,
-    errors: &mut E,
-) -> Outcome
-where
-    R: Threads + Wait + Clock + Copy + Send + 'static,
-    requires names { IfOk cases (λ v. All HasNames v.items) }
-    requires run { task.now ≡ Run options.now }
-    ensures { DoesCases B.outcome (WereMade cases) task.now (held_streams W.contents writer.old writer.new E.contents errors.old errors.new) result }
-{
-    let cases = match asked(alloc, cases, &options.choice) {
-        Ok(cases) => cases,
-        Err(fault) => return refuse(alloc, errors, fault),
-    };
-    match run_cases(rt, alloc, cases, options, writer, errors) {
-        Ok(outcome) => outcome,
-        Err(fault) => refuse(alloc, errors, fault_of(fault)),
-    }
-}
-
 // Does with the test cases what the task asks for.
 fn do_task<R, B: Callable, W: Write, E: Write>(
     rt: &R,
@@ -109,12 +63,26 @@ where
     requires of_cases { IsOfCases task.now }
     ensures { DoesCases B.outcome (WereMade cases) task.now (held_streams W.contents writer.old writer.new E.contents errors.old errors.new) result }
 {
-    match task {
-        Task::Run(options) => run_asked(rt, alloc, cases, task, options, writer, errors),
-        Task::List { choice, explains } => {
-            list_cases(alloc, cases, task, choice, *explains, writer, errors)
+    let options = match task {
+        Task::Run(options) => options,
+        Task::List {
+            choice,
+            explains: _,
+        } => {
+            return match list_of_asked(alloc, cases, choice) {
+                Ok(answer) => give_answer(alloc, &answer, writer, errors),
+                Err(fault) => refuse(alloc, errors, fault),
+            };
         }
         _ => unreachable!(),
+    };
+    let cases = match asked(alloc, cases, &options.choice) {
+        Ok(cases) => cases,
+        Err(fault) => return refuse(alloc, errors, fault),
+    };
+    match run_cases(rt, alloc, cases, options, writer, errors) {
+        Ok(outcome) => outcome,
+        Err(fault) => refuse(alloc, errors, fault_of(fault)),
     }
 }
 

@@ -1,20 +1,33 @@
 //! Which pattern of `--only` matches no name.
-ghost use Rattle.std.specs.Prelude.{[], OnOk};
+ghost use Rattle.std.specs.Prelude.{◌≡◌, [], IfOk, List, OnOk, map, not};
+ghost use Rattle.std.specs.List.{list_any};
+ghost use Rattle.tc_rules.specs.Prelude.{matches};
 ghost use Rattle.tc_text.specs.Prelude.{TellsAmong};
+ghost use Rattle.tc_blocks.specs.Prelude.{AreEvidence};
+ghost use Rattle.tc_blocks.specs.declared.block.Block.{Block as AnyBlock};
 
 use std::alloc::Global;
 use tc_answer::{RunFault, read_script};
-use tc_blocks::read_evidence;
+use tc_blocks::{Block, read_evidence};
 use tc_entry::{Name, NoMemory, Pattern};
 
-/// The names of the blocks of a text.
-pub(crate) fn names_of_blocks(alloc: Global, text: &[u8]) -> Result<Vec<Name>, RunFault> {
-    let blocks = read_evidence(alloc, text)?;
+// The names of the blocks.
+fn block_names(alloc: Global, blocks: &[Block]) -> Result<Vec<Name>, NoMemory>
+    ensures { IfOk result (λ v. v.items ≡ map (λ b. b.header.name) blocks.now) }
+{
     let mut names = Vec::new(alloc);
-    for block in blocks.as_slice() {
+    for block in blocks {
         names.push(block.header.name.copy())?;
     }
     Ok(names)
+}
+
+/// The names of the blocks of a text.
+pub(crate) fn names_of_blocks(alloc: Global, text: &[u8]) -> Result<Vec<Name>, RunFault>
+    ensures { IfOk result (λ v. (all : List AnyBlock) → AreEvidence text.now all → v.items ≡ map (λ b. b.header.name) all) }
+{
+    let blocks = read_evidence(alloc, text)?;
+    Ok(block_names(alloc, blocks.as_slice())?)
 }
 
 /// The names of the test cases of the script.
@@ -28,9 +41,18 @@ pub(crate) fn names_of_script(alloc: Global, script: &[u8]) -> Result<Vec<Name>,
     Ok(names)
 }
 
+// Whether the pattern matches one of these names.
+fn is_known(pattern: &Pattern, names: &[Name]) -> bool
+    ensures { result ≡ list_any (λ n. matches pattern.now n) names.now }
+{
+    names.iter().any(|name| pattern.matches(name))
+}
+
 // Whether the pattern matches none of these names.
-fn is_unknown(pattern: &Pattern, names: &[Name]) -> bool {
-    !names.iter().any(|name| pattern.matches(name))
+fn is_unknown(pattern: &Pattern, names: &[Name]) -> bool
+    ensures { result ≡ not (list_any (λ n. matches pattern.now n) names.now) }
+{
+    !is_known(pattern, names)
 }
 
 // Appends that no test case has the name, and the name that is the nearest.

@@ -5,16 +5,17 @@ ghost use Rattle.tc_campaign.specs.Prelude.{HasNames};
 use crate::checks::{holds, is};
 use std::alloc::Global;
 use std::process::Abort;
+use std::str;
 use std::sync::Wait;
 use std::test::Fail;
 use std::thread::Threads;
 use std::time::Clock;
 use tc_book::Pass;
-use tc_campaign::Case;
+use tc_campaign::{CampaignEnd, Case, run_campaign};
 use tc_command::{Choice, Form, RunOptions};
 use tc_entry::Name;
 use tc_exec::{Back, Callable, Ending};
-use tc_program::{Outcome, run_cases};
+use tc_program::{Outcome, abort_line, run_cases};
 use tc_stream::devices::{NarrowWriter, WriteFailure};
 
 const ABORTED: &[u8] = b"ttrun: aborted at a: no behaviours\n";
@@ -64,6 +65,18 @@ fn passing(alloc: Global) -> Result<Case<Returns>, Fail>
     })
 }
 
+/// The test case t, of two behaviours.
+fn of_two(alloc: Global) -> Result<Vec<Case<Returns>>, Fail>
+    ensures { IfOk result (λ cases. All HasNames cases.items) }
+{
+    let case = Case {
+        name: name_of("t")?,
+        names: vec![in alloc; name_of("main")?, name_of("other")?]?,
+        jobs: vec![in alloc; Returns, Returns]?,
+    };
+    Ok(vec![in alloc; case]?)
+}
+
 /// Only the test case a.
 fn alone(alloc: Global) -> Result<Vec<Case<Returns>>, Fail>
     ensures { IfOk result (λ cases. All HasNames cases.items) }
@@ -82,15 +95,12 @@ fn both(alloc: Global) -> Result<Vec<Case<Returns>>, Fail>
 fn options(alloc: Global, live: bool, progress: bool) -> RunOptions {
     RunOptions {
         form: Form::Text,
+        times: false,
         live,
         progress,
+        failures: false,
         stop_on: None,
-        choice: Choice {
-            only: Vec::new(alloc),
-            shard: None,
-            failed: false,
-            last: false,
-        },
+        choice: Choice::all(alloc),
         explains: false,
     }
 }
@@ -201,8 +211,24 @@ fn an_aborted_case_has_begun(rt: HostRuntime) -> Result<(), Fail> {
         let told = errors.taken.as_slice();
         let first = told.starts_with(b"1/2 t ..\n1/2 t none ");
         holds(&rt, "the test case before it", first);
-        let last = told.ends_with(b" s\n2/2 a ..\nttrun: aborted at a: no behaviours\n");
-        holds(&rt, "the test case itself", last);
+        let text = str::from_utf8(told)?;
+        let counted = text.contains(" s\n2/2 a ..\n1 passed, 0 failed, ");
+        holds(&rt, "the test case itself, and how many passed", counted);
+        let last = told.ends_with(b" s\nttrun: aborted at a: no behaviours\n");
+        holds(&rt, "why it was refused", last);
     }
+    Ok(())
+}
+
+#[test]
+fn line_of_an_abort(rt: HostRuntime) -> Result<(), Fail> {
+    let cases = of_two(rt.alloc())?;
+    let mut results = run_campaign(&rt, rt.alloc(), cases, None, 0);
+    let mut line = Vec::new(rt.alloc());
+    is(&rt, "an abort", abort_line(&results, &mut line)?, true);
+    results.ending = CampaignEnd::Complete;
+    is(&rt, "no abort", abort_line(&results, &mut line)?, false);
+    let wanted = b"ttrun: aborted at t: no thread\n".as_slice();
+    is(&rt, "the line", line.as_slice(), wanted);
     Ok(())
 }

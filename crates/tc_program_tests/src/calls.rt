@@ -7,7 +7,7 @@ use std::test::Fail;
 use std::thread::Threads;
 use std::time::Clock;
 use tc_command::{Refused, Task};
-use tc_program::{Outcome, RunFault};
+use tc_program::{Arguments, Outcome, RunFault};
 
 /// The bytes of a text, with a line feed for each `;`.
 pub(crate) fn in_lines(alloc: Global, text: &str) -> Result<Vec<u8>, AllocError> {
@@ -70,7 +70,11 @@ pub(crate) fn answer<R, I: Read, W: Write, E: Write>(
 where
     R: Threads + Wait + Clock + Copy + Send + 'static,
 {
-    tc_program::answer(rt, alloc, words, false, reader, writer, errors)
+    let arguments = Arguments {
+        words,
+        at_terminal: false,
+    };
+    tc_program::answer(rt, alloc, arguments, reader, writer, errors)
 }
 
 pub(crate) fn carry_out<R, I: Read, W: Write, E: Write>(

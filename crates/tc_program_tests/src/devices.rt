@@ -1,7 +1,8 @@
-//! Readers and writers that fail.
+//! Readers and writers that fail, and the line before an input that is typed.
 use crate::calls::{answer, carry_out, in_lines, task_of, words_of};
 use crate::checks::{holds, is};
 use std::alloc::Global;
+use std::io;
 use std::io::{Read, Write};
 use std::process::Abort;
 use std::sync::Wait;
@@ -13,7 +14,7 @@ use tc_campaign::{CampaignEnd, Finished, Results};
 use tc_command::{Form, Task};
 use tc_entry::{Comp, Entry, Name, Op, Reply, Run, Sequence, Verdict};
 use tc_exec::CaseError;
-use tc_program::{Outcome, RunFault, abort_line, check, give, replay};
+use tc_program::{Announcing, Outcome, RunFault, awaited_line, check, give, replay};
 use tc_stream::devices::{NarrowWriter, SlowReader, WriteFailure};
 
 /// The words of a task, its input, and its status.
@@ -313,18 +314,6 @@ fn failing_devices(rt: HostRuntime) -> Result<(), Fail> {
     Ok(())
 }
 
-#[test]
-fn line_of_an_abort(rt: HostRuntime) -> Result<(), Fail> {
-    let mut results = aborted(rt.alloc())?;
-    let mut line = Vec::new(rt.alloc());
-    is(&rt, "an abort", abort_line(&results, &mut line)?, true);
-    results.ending = CampaignEnd::Complete;
-    is(&rt, "no abort", abort_line(&results, &mut line)?, false);
-    let wanted = b"ttrun: aborted at a: no thread\n".as_slice();
-    is(&rt, "the line", line.as_slice(), wanted);
-    Ok(())
-}
-
 /// Carries out a refused task if standard error fails after this part of its line, or not at all.
 fn tells_up_to<R: Abort + Threads + Wait + Clock + Copy + Send + 'static>(
     rt: &R,
@@ -376,6 +365,44 @@ fn is_not_written<R: Abort + Threads + Wait + Clock + Copy + Send + 'static>(
 fn help_that_is_not_written(rt: HostRuntime) -> Result<(), Fail> {
     for fails_at in 0..9 {
         is_not_written(&rt, rt.alloc(), fails_at)?;
+    }
+    Ok(())
+}
+
+/// The number of bytes of the next read into one byte, and that byte.
+fn next_byte<I: Read>(input: &mut I) -> io::Result<(usize, u8)> {
+    let mut byte = [0u8; 1];
+    let count = input.read(&mut byte)?;
+    Ok((count, byte[0]))
+}
+
+/// Checks that the line is printed before the first read, up to this write, and not again.
+fn is_told_once<R: Abort>(
+    rt: &R,
+    alloc: Global,
+    line: &'static str,
+    fails_at: usize,
+) -> Result<(), Fail> {
+    let mut input = Announcing {
+        reader: SlowReader::new(b"ab", usize::MAX),
+        errors: NarrowWriter::new(alloc, fails_at, WriteFailure::Broken),
+        line: Some(line),
+    };
+    is(rt, "how much is told", input.errors.taken.len(), 0);
+    is(rt, "the first read", next_byte(&mut input)?, (1, b'a'));
+    let told = fails_at.min(line.len());
+    let taken = Some(input.errors.taken.as_slice());
+    is(rt, "the line", taken, line.as_bytes().get(..told));
+    is(rt, "the second read", next_byte(&mut input)?.0, 1);
+    is(rt, "the third read", next_byte(&mut input)?.0, 0);
+    is(rt, "what is told", input.errors.taken.len(), told);
+    Ok(())
+}
+
+#[test]
+fn the_line_stands_before_the_first_read_alone(rt: HostRuntime) -> Result<(), Fail> {
+    for fails_at in [0, 7, usize::MAX] {
+        is_told_once(&rt, rt.alloc(), awaited_line(None), fails_at)?;
     }
     Ok(())
 }

@@ -13,8 +13,6 @@ mod devices;
 #[cfg(test)]
 mod runs;
 #[cfg(test)]
-mod terminal;
-#[cfg(test)]
 mod words;
 #[cfg(test)]
 mod worked;

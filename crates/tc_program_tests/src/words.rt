@@ -24,6 +24,8 @@ ttrun run --history => run --history
 ttrun run --evidence => run --evidence
 ttrun run --junit => run --junit
 ttrun run --suite nightly --junit => run --junit --suite=nightly
+ttrun run --junit --times => run --junit --times
+ttrun run --times --suite a --progress --junit => run --junit --suite=a --times --progress
 ttrun run --stop-on fail => run --stop-on=fail
 ttrun run --stop-on=fail => run --stop-on=fail
 ttrun run --csv --stop-on none => run --csv --stop-on=none
@@ -40,6 +42,8 @@ ttrun run --stop-on fail --live --history => run --history --live --stop-on=fail
 ttrun run --progress => run --progress
 ttrun run --csv --progress --live --stop-on fail => run --csv --live --progress --stop-on=fail
 ttrun run --junit --progress => run --junit --progress
+ttrun run --csv --progress=failures => run --csv --progress=failures
+ttrun run --progress failures --only a => run --progress=failures --only=a
 ttrun run --only a => run --only=a
 ttrun run --only b --only=a --only b => run --only=b --only=a --only=b
 ttrun run --shard 1/2 --csv => run --csv --shard=1/2
@@ -64,6 +68,7 @@ ttrun check --only a --only=b* => check --only=a --only=b*
 ttrun check --failed --explain => check --failed --explain
 ttrun check --failed --only a => check --only=a --failed
 ttrun check --last => check --last
+ttrun check --long --last => check --last --long
 ttrun check --script --last => check --script --last
 ttrun check --script --explain => check --script --explain
 ttrun check --script => check --script
@@ -72,12 +77,15 @@ ttrun replay --explain => replay --explain
 ttrun report --explain --junit => report --junit --explain
 ttrun report --explain --script --csv --only a* => report --csv --script --only=a* --explain
 ttrun report --csv => report --csv
+ttrun report --text => report --text
+ttrun report --script --only a --text => report --text --script --only=a
 ttrun report --junit => report --junit
 ttrun report --junit --suite=A_1 => report --junit --suite=A_1
 ttrun report --summary => report --summary
 ttrun report --failed --summary => report --summary --failed
 ttrun report --last --summary --failed => report --summary --failed --last
 ttrun report --script --last --csv => report --csv --script --last
+ttrun report --long --junit --only a => report --junit --only=a --long
 ttrun report --only a --csv --failed --only b => report --csv --only=a --only=b --failed
 ttrun report --html --script --only a => report --html --script --only=a
 ttrun report --summary --script --only a => report --summary --script --only=a
@@ -90,6 +98,7 @@ ttrun explore => explore --states=100000
 ttrun explore --history => explore --history --states=100000
 ttrun explore --states 7 => explore --states=7
 ttrun explore --states=1000000 --history => explore --history --states=1000000
+ttrun explore --evidence --states 7 => explore --evidence --states=7
 ttrun explore --details => explore --details --states=100000
 ttrun explore --states 7 --details => explore --details --states=7
 ttrun explore --locals => explore --locals --states=100000
@@ -110,6 +119,7 @@ ttrun run --list => run --list --explain
 ttrun run --no-explain --list => run --list
 ttrun check => check --explain
 ttrun check --no-explain => check
+ttrun check --long => check --long --explain
 ttrun check --script => check --script --explain
 ttrun check --no-explain --script => check --script
 ttrun replay => replay --explain
@@ -143,7 +153,8 @@ fn append_choice(out: &mut String, choice: &Choice) -> Result<(), Fail> {
         write!(out, " --shard={number}/{}", shard.shards())?;
     }
     append_if(out, choice.failed, " --failed")?;
-    Ok(append_if(out, choice.last, " --last")?)
+    append_if(out, choice.last, " --last")?;
+    Ok(append_if(out, choice.long, " --long")?)
 }
 
 fn append_suite(out: &mut String, suite: &Option<Name>) -> Result<(), Fail> {
@@ -175,8 +186,10 @@ fn append_rule(out: &mut String, options: &RunOptions) -> Result<(), AllocError>
 
 fn append_run(out: &mut String, options: &RunOptions) -> Result<(), Fail> {
     append_form(out, &options.form)?;
+    append_if(out, options.times, " --times")?;
     append_if(out, options.live, " --live")?;
     append_if(out, options.progress, " --progress")?;
+    append_if(out, options.failures, "=failures")?;
     append_rule(out, options)?;
     append_choice(out, &options.choice)?;
     append_explains(out, options.explains)
@@ -193,6 +206,7 @@ fn append_list(out: &mut String, choice: &Choice) -> Result<(), Fail> {
 
 fn append_report(out: &mut String, form: &ReportForm) -> Result<(), Fail> {
     match form {
+        ReportForm::Text => Ok(out.push_str("report --text")?),
         ReportForm::Csv => Ok(out.push_str("report --csv")?),
         ReportForm::Junit(suite) => {
             out.push_str("report --junit")?;
@@ -225,6 +239,7 @@ fn append_chosen(out: &mut String, choice: &Choice, explains: bool) -> Result<()
 fn append_explore(out: &mut String, options: &ExploreOptions) -> Result<(), Fail> {
     out.push_str("explore")?;
     append_if(out, options.histories, " --history")?;
+    append_if(out, options.evidence, " --evidence")?;
     append_if(out, options.details, " --details")?;
     append_if(out, options.locals, " --locals")?;
     write!(out, " --states={}", options.states)?;

@@ -1,14 +1,8 @@
 -- If the references of a behaviour are bound, each place of its steps is.
-use Rattle.std.proofs.Common.{ℕ, suc, ◌≡◌, ◌∙◌, ◌+◌, ◌<◌, Bool, true, false, Option, Some, None, List, [], ◌∷◌, ◌++◌, length, map, All, nat_eq, refl, sym, ap, arith, rules, cond, ◌≤◌}
-use Rattle.std.specs.Prelude.{◌||◌, not, if◌then◌else◌, is_some}
-use Rattle.std.specs.{Cmp.Lexicographic.bytes_decides, Cmp.Lexicographic.pointwise, List.list_any, List.position_or_len, Option.option_map, Option.option_or, Map.lookup}
-use Rattle.std.proofs.lemmas.{List.Elements.All-cons, List.Folds.list_any-append, List.length-append, List.length-map, List.map-append}
-use Rattle.tc_step.specs.declared.{place.GroupPlace.GroupPlace, place.Place.Place, place.TargetPlace.TargetPlace}
-use Rattle.tc_step.specs.Prelude.{group_map, target_map, IsBound, AreBound, of_group, of_target}
-use Rattle.tc_reader.specs.{Campaign.place, Campaign.step_of, Campaign.steps, FirstPass.at_next, Names.add, Names.all_of, Names.among, Names.has_twice, Names.index_of, Scope.Head, Scope.bound, Scope.scope_of, SecondPass.is_unbound, SecondPass.misnamed, SecondPass.name_fault, Words.is_text, Inside.add_head, Inside.head_fault, Inside.names_of, Names.Word, Scope.parameters_of}
-use Rattle.tc_reader.specs.declared.{kind.ScriptKind.ScriptKind, line.Call.Call, line.Line.Line}
-use Rattle.indexmap.specs.IndexMap.{IndexMap, insert_entry}
-use Rattle.indexmap.proofs.CallerLemmas.{insert_entry-new}
+use Rattle.std.{proofs.{Common.{ℕ, suc, ◌≡◌, ◌∙◌, ◌+◌, ◌<◌, Bool, true, false, Option, Some, None, List, [], ◌∷◌, ◌++◌, length, map, All, nat_eq, refl, sym, ap, arith, rules, cond, ◌≤◌}, lemmas.List.{Elements.All-cons, Folds.list_any-append, length-append, length-map, map-append}}, specs.{Prelude.{◌||◌, not, if◌then◌else◌, is_some}, Cmp.Lexicographic.{bytes_decides, pointwise}, List.{list_any, position_or_len}, Option.{option_map, option_or}, Map.lookup}}
+use Rattle.tc_step.specs.{declared.place.{GroupPlace.GroupPlace, Place.Place, TargetPlace.TargetPlace}, Prelude.{group_map, target_map, IsBound, AreBound, of_group, of_target}}
+use Rattle.tc_reader.specs.{Campaign.{place, step_of, steps}, FirstPass.at_next, Names.{add, all_of, among, has_twice, index_of, Word}, Scope.{Head, bound, scope_of, parameters_of}, SecondPass.{is_unbound, misnamed, name_fault}, Words.is_text, Inside.{add_head, head_fault, names_of}, declared.{kind.ScriptKind.ScriptKind, line.{Call.Call, Line.Line}}}
+use Rattle.indexmap.{specs.IndexMap.{IndexMap, insert_entry}, proofs.CallerLemmas.insert_entry-new}
 
 pub named_next : (past : List Line) (l : Line) (rest : List Line) → misnamed past (l ∷ rest) ≡ None → (name_fault (scope_of past (l ∷ rest)) l ≡ None) × (misnamed (l ∷ past) rest ≡ None)
 named_next past l rest is = by (name_fault (scope_of past (l ∷ rest)) l) is
@@ -38,9 +32,8 @@ known false e = absurd cc
 
 place_bound : (ns : List (List ℕ)) (r : Place (List ℕ)) → is_unbound ns r ≡ false → IsBound (length ns) (place ns r)
 unfolding among index_of
-place_bound ns Place.Main e = tt
-place_bound ns Place.Own e = tt
 place_bound ns (Place.Bound n) e = found_below (is_text n) ns (known (among n ns) e)
+place_bound ns _ e = tt
 
 all_bound : (ns : List (List ℕ)) (rs : List (Place (List ℕ))) → list_any (is_unbound ns) rs ≡ false → All (IsBound (length ns)) (map (place ns) rs)
 all_bound ns [] e = search rules
@@ -54,8 +47,7 @@ group_bound ns GroupPlace.All e = search rules
 
 target_bound : (ns : List (List ℕ)) (t : TargetPlace (Place (List ℕ))) → list_any (is_unbound ns) (of_target t) ≡ false → All (IsBound (length ns)) (of_target (target_map (place ns) t))
 target_bound ns (TargetPlace.One r) e = all_bound ns (r ∷ []) e
-target_bound ns TargetPlace.Any e = search rules
-target_bound ns TargetPlace.All e = search rules
+target_bound ns _ e = search rules
 
 -- ---- what the lack of a fault says
 
@@ -91,18 +83,18 @@ differ n m e = by (pointwise nat_eq m n) (bytes_decides m n).0
 pub either : (a b : Bool) → a ≡ false → b ≡ false → (a || b) ≡ false
 either a b p q = rw (p, q) refl
 
-new_behind : (ns : List (List ℕ)) (n : List ℕ) (ms : List (List ℕ)) → AreNew ns ms → among n ms ≡ false → AreNew (ns ++ n ∷ []) ms
+new_after : (ns : List (List ℕ)) (n : List ℕ) (ms : List (List ℕ)) → AreNew ns ms → among n ms ≡ false → AreNew (ns ++ n ∷ []) ms
 unfolding among
-new_behind ns n [] are e = tt
-new_behind ns n (m ∷ ms) are e =
+new_after ns n [] are e = tt
+new_after ns n (m ∷ ms) are e =
     let two = neither (is_text n m) (list_any (is_text n) ms) e in
-    (list_any-append (is_text m) ns (n ∷ []) ∙ either _ _ are.0 (either _ _ (differ n m two.0) refl), new_behind ns n ms are.1 two.1)
+    (list_any-append (is_text m) ns (n ∷ []) ∙ either _ _ are.0 (either _ _ (differ n m two.0) refl), new_after ns n ms are.1 two.1)
 
 all_length : (ns ps : List (List ℕ)) → has_twice ps ≡ false → AreNew ns ps → length (all_of ns ps) ≡ length ns + length ps
 all_length ns [] e are = omega arith
 all_length ns (m ∷ ms) e are =
     let two = neither (among m ms) (has_twice ms) e in
-    let next = all_length (ns ++ m ∷ []) ms two.1 (new_behind ns m ms are.1 two.0) in
+    let next = all_length (ns ++ m ∷ []) ms two.1 (new_after ns m ms are.1 two.0) in
     let here : length (all_of (add m ns) ms) ≡ length (all_of (ns ++ m ∷ []) ms) = ap (λ xs. length (all_of xs ms)) (add_new m ns are.0) in
     let long = one_longer m ns in
     here ∙ grind (arith, next, long)
@@ -117,9 +109,6 @@ new_to_none (m ∷ ms) = (refl, new_to_none ms)
 are_bound : (hs : List Head) (past rest : List Line) → misnamed past rest ≡ None → AreBound (length (bound past)) (steps hs (bound past) rest)
 unfolding step_of
 are_bound hs past [] named = tt
-are_bound hs past (Line.TestCase n ∷ rest) named = tt
-are_bound hs past (Line.Behaviour n ps ∷ rest) named = tt
-are_bound hs past (Line.End ∷ rest) named = tt
 are_bound hs past (Line.Skipped ∷ rest) named = are_bound hs (Line.Skipped ∷ past) rest (named_next past Line.Skipped rest named).1
 are_bound hs past (Line.Step (Call.Create n alive given_name) ∷ rest) named =
     let two = named_next past (Line.Step (Call.Create n alive given_name)) rest named in
@@ -141,9 +130,8 @@ are_bound hs past (Line.Step (Call.Ask s t) ∷ rest) named =
 are_bound hs past (Line.Step (Call.Wait killed t) ∷ rest) named =
     let two = named_next past (Line.Step (Call.Wait killed t)) rest named in
     (target_bound (bound past) t (no_fault _ ScriptKind.NoReference two.0), are_bound hs (Line.Step (Call.Wait killed t) ∷ past) rest two.1)
-are_bound hs past (Line.Step (Call.SetVerdict v) ∷ rest) named = (search rules, are_bound hs (Line.Step (Call.SetVerdict v) ∷ past) rest (named_next past (Line.Step (Call.SetVerdict v)) rest named).1)
-are_bound hs past (Line.Step Call.StopCase ∷ rest) named = (search rules, are_bound hs (Line.Step Call.StopCase ∷ past) rest (named_next past (Line.Step Call.StopCase) rest named).1)
-are_bound hs past (Line.Step Call.GetVerdict ∷ rest) named = (search rules, are_bound hs (Line.Step Call.GetVerdict ∷ past) rest (named_next past (Line.Step Call.GetVerdict) rest named).1)
+are_bound hs past (Line.Step call ∷ rest) named = (search rules, are_bound hs (Line.Step call ∷ past) rest (named_next past (Line.Step call) rest named).1)
+are_bound hs past (_ ∷ rest) named = tt
 
 -- those of a behaviour with these parameters
 pub places_bound : (hs : List Head) (past : List Line) (n : List ℕ) (ps : List (List ℕ)) (rest : List Line) → name_fault (scope_of past (Line.Behaviour n ps ∷ rest)) (Line.Behaviour n ps) ≡ None

@@ -1,12 +1,8 @@
 -- Each test case of lines without a fault starts its own behaviours, with their numbers of arguments.
-use Rattle.std.proofs.Common.{ℕ, suc, ◌≡◌, ◌∙◌, ◌+◌, ◌≤◌, Bool, true, false, Option, Some, None, List, [], ◌∷◌, ◌++◌, length, map, All, refl, sym, ap, arith, rules, append_assoc, cond, Result, Ok, Err}
-use Rattle.std.specs.Prelude.{◌&&◌, ◌||◌, not, if◌then◌else◌, ◌==◌, is_some, slice_get, IfSome}
-use Rattle.std.specs.{List.list_any, List.position_or_len, Map.lookup, Option.option_map, Option.option_map_or}
-use Rattle.std.proofs.lemmas.{Bool.Decides.nat_tests, List.Elements.All-cons, List.Folds.list_any-append, List.append-nil, List.length-map, List.map-append}
+use Rattle.std.{proofs.{Common.{ℕ, suc, ◌≡◌, ◌∙◌, ◌+◌, ◌≤◌, Bool, true, false, Option, Some, None, List, [], ◌∷◌, ◌++◌, length, map, All, refl, sym, ap, arith, rules, append_assoc, cond, Result, Ok, Err}, lemmas.{Bool.Decides.nat_tests, List.{Elements.All-cons, Folds.list_any-append, append-nil, length-map, map-append}}}, specs.{Prelude.{◌&&◌, ◌||◌, not, if◌then◌else◌, ◌==◌, is_some, slice_get, IfSome}, List.{list_any, position_or_len}, Map.lookup, Option.{option_map, option_map_or}}}
 use Rattle.tc_entry.specs.declared.limits.TheConstants.{BEHAVIOURS}
 use Rattle.tc_step.specs.Prelude.{ScriptView}
-use Rattle.tc_reader.specs.{Campaign.IsCase, Campaign.StartsOne, Campaign.behaviours, Campaign.cases, Campaign.place, Inside.signatures, Campaign.step_of, Campaign.steps, Inside.AreCases, Inside.add_head, Inside.names_of, Names.Word, Names.add, Names.all_of, Names.among, Names.has_twice, Names.index_of, Scope.Head, Scope.behaviours_before, Scope.cases_before, Scope.heads, Scope.heads_around, Scope.heads_with, Scope.parameters_of, Scope.with_bound, SecondPass.misnamed, Words.is_text, declared.kind.ScriptKind.ScriptKind, declared.line.Call.Call, declared.line.Line.Line}
-use Rattle.tc_reader.proofs.Binding.{add_new, differ, either, named_next, neither, no_fault, no_first, there}
+use Rattle.tc_reader.{specs.{Campaign.{IsCase, StartsOne, behaviours, cases, place, step_of, steps}, Inside.{signatures, AreCases, add_head, names_of}, Names.{Word, add, all_of, among, has_twice, index_of}, Scope.{Head, behaviours_before, cases_before, heads, heads_around, heads_with, parameters_of, with_bound}, SecondPass.misnamed, Words.is_text, declared.{kind.ScriptKind.ScriptKind, line.{Call.Call, Line.Line}}}, proofs.Binding.{add_new, differ, either, named_next, neither, no_fault, no_first, there}}
 
 -- ---- a behaviour and its place
 
@@ -31,9 +27,6 @@ none_used false false false e = (refl, refl)
 heads_are : (gs hs : List Head) (past rest : List Line) → misnamed past rest ≡ None → names_of hs ≡ behaviours_before past → heads_with hs rest ≡ hs ++ signatures (behaviours gs rest)
 heads_are gs hs past [] named same = sym (append-nil hs)
 heads_are gs hs past (Line.TestCase n ∷ rest) named same = sym (append-nil hs)
-heads_are gs hs past (Line.Skipped ∷ rest) named same = heads_are gs hs (Line.Skipped ∷ past) rest (named_next past Line.Skipped rest named).1 same
-heads_are gs hs past (Line.End ∷ rest) named same = heads_are gs hs (Line.End ∷ past) rest (named_next past Line.End rest named).1 same
-heads_are gs hs past (Line.Step call ∷ rest) named same = heads_are gs hs (Line.Step call ∷ past) rest (named_next past (Line.Step call) rest named).1 same
 heads_are gs hs past (Line.Behaviour n ps ∷ rest) named same =
     let two = named_next past (Line.Behaviour n ps) rest named in
     let new : among n (behaviours_before past) ≡ false = (none_used (among n (behaviours_before past)) _ _ two.0).0 in
@@ -42,6 +35,7 @@ heads_are gs hs past (Line.Behaviour n ps ∷ rest) named same =
     let names : names_of (hs ++ (n, length ps) ∷ []) ≡ behaviours_before (Line.Behaviour n ps ∷ past) =
     rw new (map-append (λ h. h.0) hs ((n, length ps) ∷ []) ∙ ap (λ ns. ns ++ n ∷ []) same) in
     ap (λ xs. heads_with xs rest) grown ∙ heads_are gs (hs ++ (n, length ps) ∷ []) (Line.Behaviour n ps ∷ past) rest two.1 names ∙ append_assoc hs ((n, length ps) ∷ []) (signatures (behaviours gs rest))
+heads_are gs hs past (l ∷ rest) named same = heads_are gs hs (l ∷ past) rest (named_next past l rest named).1 same
 
 -- ---- starts
 
@@ -65,24 +59,15 @@ starts_at hs ns past (Call.Start on b args) rest same named =
     let known = no_first _ ScriptKind.NoReference _ (named_next past (Line.Step (Call.Start on b args)) rest named).0 in
     let given = right_count (parameters_of b (heads_around past (Line.Step (Call.Start on b args) ∷ rest))) (length args) known.1 in
     at_place b hs (length args) (ap (parameters_of b) (sym same) ∙ given) ∙ ap Some (sym (length-of_map (place ns) args))
-starts_at hs ns past (Call.Create n alive given_name) rest same named = tt
-starts_at hs ns past (Call.Stop g) rest same named = tt
-starts_at hs ns past (Call.Kill g) rest same named = tt
-starts_at hs ns past (Call.Ask s t) rest same named = tt
-starts_at hs ns past (Call.Wait killed t) rest same named = tt
-starts_at hs ns past (Call.SetVerdict v) rest same named = tt
-starts_at hs ns past Call.StopCase rest same named = tt
-starts_at hs ns past Call.GetVerdict rest same named = tt
+starts_at hs ns past _ rest same named = tt
 
 starts_of : (hs : List Head) (ns : List Word) (past rest : List Line) → heads_around past rest ≡ hs → misnamed past rest ≡ None → All (StartsOne hs) (steps hs ns rest)
 starts_of hs ns past [] same named = search rules
-starts_of hs ns past (Line.TestCase n ∷ rest) same named = search rules
-starts_of hs ns past (Line.Behaviour n ps ∷ rest) same named = search rules
-starts_of hs ns past (Line.End ∷ rest) same named = search rules
 starts_of hs ns past (Line.Skipped ∷ rest) same named = starts_of hs ns (Line.Skipped ∷ past) rest same (named_next past Line.Skipped rest named).1
 starts_of hs ns past (Line.Step call ∷ rest) same named =
     All-cons (StartsOne hs) (step_of hs ns call) (steps hs (with_bound call ns) rest) (starts_at hs ns past call rest same named)
     (starts_of hs (with_bound call ns) (Line.Step call ∷ past) rest same (named_next past (Line.Step call) rest named).1)
+starts_of hs ns past (_ ∷ rest) same named = search rules
 
 abbrev StartsAll : List Head → Word × ScriptView → Type 0
 StartsAll hs b = All (StartsOne hs) b.1.steps
@@ -90,13 +75,11 @@ StartsAll hs b = All (StartsOne hs) b.1.steps
 starts_in : (hs : List Head) (past rest : List Line) → heads_around past rest ≡ hs → misnamed past rest ≡ None → All (StartsAll hs) (behaviours hs rest)
 starts_in hs past [] same named = search rules
 starts_in hs past (Line.TestCase n ∷ rest) same named = search rules
-starts_in hs past (Line.Skipped ∷ rest) same named = starts_in hs (Line.Skipped ∷ past) rest same (named_next past Line.Skipped rest named).1
-starts_in hs past (Line.End ∷ rest) same named = starts_in hs (Line.End ∷ past) rest same (named_next past Line.End rest named).1
-starts_in hs past (Line.Step call ∷ rest) same named = starts_in hs (Line.Step call ∷ past) rest same (named_next past (Line.Step call) rest named).1
 starts_in hs past (Line.Behaviour n ps ∷ rest) same named =
     let left = (named_next past (Line.Behaviour n ps) rest named).1 in
     All-cons (StartsAll hs) (n, record { parameters = length ps; steps = steps hs (all_of [] ps) rest }) (behaviours hs rest)
     (starts_of hs (all_of [] ps) (Line.Behaviour n ps ∷ past) rest same left) (starts_in hs (Line.Behaviour n ps ∷ past) rest same left)
+starts_in hs past (l ∷ rest) same named = starts_in hs (l ∷ past) rest same (named_next past l rest named).1
 
 -- ---- the main component's behaviour
 
@@ -107,46 +90,39 @@ no_parameters (p ∷ ps) ns none e = let long : length ns ≡ 0 = ap length none
 main_is : (hs : List Head) (past rest : List Line) → behaviours_before past ≡ [] → misnamed past rest ≡ None → IfSome (slice_get (behaviours hs rest) 0) (λ b. b.1.parameters ≡ 0)
 main_is hs past [] none named = search rules
 main_is hs past (Line.TestCase n ∷ rest) none named = search rules
-main_is hs past (Line.Skipped ∷ rest) none named = main_is hs (Line.Skipped ∷ past) rest none (named_next past Line.Skipped rest named).1
-main_is hs past (Line.End ∷ rest) none named = main_is hs (Line.End ∷ past) rest none (named_next past Line.End rest named).1
-main_is hs past (Line.Step call ∷ rest) none named = main_is hs (Line.Step call ∷ past) rest none (named_next past (Line.Step call) rest named).1
 main_is hs past (Line.Behaviour n ps ∷ rest) none named = no_parameters ps (behaviours_before past) none (none_used (among n (behaviours_before past)) _ _ (named_next past (Line.Behaviour n ps) rest named).0).1
+main_is hs past (l ∷ rest) none named = main_is hs (l ∷ past) rest none (named_next past l rest named).1
 
 -- ---- distinct names
 
-twice_behind : (n : Word) (ns : List Word) → has_twice ns ≡ false → among n ns ≡ false → has_twice (ns ++ n ∷ []) ≡ false
+twice_after : (n : Word) (ns : List Word) → has_twice ns ≡ false → among n ns ≡ false → has_twice (ns ++ n ∷ []) ≡ false
 unfolding among
-twice_behind n [] once new = refl
-twice_behind n (m ∷ ns) once new =
+twice_after n [] once new = refl
+twice_after n (m ∷ ns) once new =
     let two = neither (among m ns) (has_twice ns) once in
     let other = neither (is_text n m) (list_any (is_text n) ns) new in
-    either _ _ (list_any-append (is_text m) ns (n ∷ []) ∙ either _ _ two.0 (either _ _ (differ n m other.0) refl)) (twice_behind n ns two.1 other.1)
+    either _ _ (list_any-append (is_text m) ns (n ∷ []) ∙ either _ _ two.0 (either _ _ (differ n m other.0) refl)) (twice_after n ns two.1 other.1)
 
 behaviour_names : (gs : List Head) (past rest : List Line) → misnamed past rest ≡ None → has_twice (behaviours_before past) ≡ false → has_twice (behaviours_before past ++ map (λ b. b.0) (behaviours gs rest)) ≡ false
 behaviour_names gs past [] named once = ap has_twice (append-nil (behaviours_before past)) ∙ once
 behaviour_names gs past (Line.TestCase n ∷ rest) named once = ap has_twice (append-nil (behaviours_before past)) ∙ once
-behaviour_names gs past (Line.Skipped ∷ rest) named once = behaviour_names gs (Line.Skipped ∷ past) rest (named_next past Line.Skipped rest named).1 once
-behaviour_names gs past (Line.End ∷ rest) named once = behaviour_names gs (Line.End ∷ past) rest (named_next past Line.End rest named).1 once
-behaviour_names gs past (Line.Step call ∷ rest) named once = behaviour_names gs (Line.Step call ∷ past) rest (named_next past (Line.Step call) rest named).1 once
 behaviour_names gs past (Line.Behaviour n ps ∷ rest) named once =
     let two = named_next past (Line.Behaviour n ps) rest named in
     let new : among n (behaviours_before past) ≡ false = (none_used (among n (behaviours_before past)) _ _ two.0).0 in
     let grown : add n (behaviours_before past) ≡ behaviours_before past ++ n ∷ [] = add_new n (behaviours_before past) new in
-    let next = behaviour_names gs (Line.Behaviour n ps ∷ past) rest two.1 (ap has_twice grown ∙ twice_behind n (behaviours_before past) once new) in
+    let next = behaviour_names gs (Line.Behaviour n ps ∷ past) rest two.1 (ap has_twice grown ∙ twice_after n (behaviours_before past) once new) in
     ap has_twice (sym (append_assoc (behaviours_before past) (n ∷ []) (map (λ b. b.0) (behaviours gs rest))) ∙ ap (λ ns. ns ++ map (λ b. b.0) (behaviours gs rest)) (sym grown)) ∙ next
+behaviour_names gs past (l ∷ rest) named once = behaviour_names gs (l ∷ past) rest (named_next past l rest named).1 once
 
 pub case_names : (past rest : List Line) → misnamed past rest ≡ None → has_twice (cases_before past) ≡ false → has_twice (cases_before past ++ map (λ t. t.0) (cases rest)) ≡ false
 case_names past [] named once = ap has_twice (append-nil (cases_before past)) ∙ once
-case_names past (Line.Skipped ∷ rest) named once = case_names (Line.Skipped ∷ past) rest (named_next past Line.Skipped rest named).1 once
-case_names past (Line.End ∷ rest) named once = case_names (Line.End ∷ past) rest (named_next past Line.End rest named).1 once
-case_names past (Line.Step call ∷ rest) named once = case_names (Line.Step call ∷ past) rest (named_next past (Line.Step call) rest named).1 once
-case_names past (Line.Behaviour n ps ∷ rest) named once = case_names (Line.Behaviour n ps ∷ past) rest (named_next past (Line.Behaviour n ps) rest named).1 once
 case_names past (Line.TestCase n ∷ rest) named once =
     let two = named_next past (Line.TestCase n) rest named in
     let new : among n (cases_before past) ≡ false = no_fault _ ScriptKind.Twice two.0 in
     let grown : add n (cases_before past) ≡ cases_before past ++ n ∷ [] = add_new n (cases_before past) new in
-    let next = case_names (Line.TestCase n ∷ past) rest two.1 (ap has_twice grown ∙ twice_behind n (cases_before past) once new) in
+    let next = case_names (Line.TestCase n ∷ past) rest two.1 (ap has_twice grown ∙ twice_after n (cases_before past) once new) in
     ap has_twice (sym (append_assoc (cases_before past) (n ∷ []) (map (λ t. t.0) (cases rest))) ∙ ap (λ ns. ns ++ map (λ t. t.0) (cases rest)) (sym grown)) ∙ next
+case_names past (l ∷ rest) named once = case_names (l ∷ past) rest (named_next past l rest named).1 once
 
 -- ---- test cases
 
@@ -167,10 +143,7 @@ cases_are past [] are named = search rules
 cases_are past (Line.TestCase n ∷ rest) are named =
     let left = (named_next past (Line.TestCase n) rest named).1 in
     All-cons (λ t. IsCase t.1) (n, behaviours (heads rest) rest) (cases rest) (case_is past n rest are.0 left) (cases_are (Line.TestCase n ∷ past) rest are.2 left)
-cases_are past (Line.Skipped ∷ rest) are named = cases_are (Line.Skipped ∷ past) rest are (named_next past Line.Skipped rest named).1
-cases_are past (Line.End ∷ rest) are named = cases_are (Line.End ∷ past) rest are (named_next past Line.End rest named).1
-cases_are past (Line.Step call ∷ rest) are named = cases_are (Line.Step call ∷ past) rest are (named_next past (Line.Step call) rest named).1
-cases_are past (Line.Behaviour n ps ∷ rest) are named = cases_are (Line.Behaviour n ps ∷ past) rest are (named_next past (Line.Behaviour n ps) rest named).1
+cases_are past (l ∷ rest) are named = cases_are (l ∷ past) rest are (named_next past l rest named).1
 
 abbrev pub with_front : {B E : Type 0} → List B → Result (List B) E → Result (List B) E
 with_front ys (Ok zs) = Ok (ys ++ zs)

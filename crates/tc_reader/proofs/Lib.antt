@@ -8,6 +8,5 @@ pub mod Walked
 pub mod WalkedText
 pub mod Naming
 pub mod Skipping
-pub mod Spelled
 pub mod Taking
 pub mod Stepping

@@ -1,11 +1,8 @@
--- The test for a name, and what a name is.
-use Rattle.std.proofs.Common.{ℕ, ◌≡◌, ◌≢◌, ◌≤◌, Bool, true, false, List, [], ◌∷◌, length, codes, refl, arith, rules, tests}
-use Rattle.std.specs.Prelude.{◌&&◌, ◌||◌, not, nat_eq, nat_le, IsTrue, All, IfSome, slice_get}
-use Rattle.std.specs.{Bool.Decides, Char.is_ascii_alphabetic, Cmp.Lexicographic.bytes_decides, Cmp.Lexicographic.pointwise, List.list_all}
-use Rattle.std.proofs.lemmas.Bool.Decides.{nat_tests, Decides-by_and}
-use Rattle.tc_entry.specs.declared.limits.TheConstants.{NAME_BYTES}
-use Rattle.tc_entry.specs.Prelude.{IsName, is_name_byte}
-use Rattle.tc_reader.specs.Words.{is_text, begins_with_letter, is_name}
+-- The test for a name, what a name is, and that each keyword is read from its spelling.
+use Rattle.std.{proofs.{Common.{ℕ, ◌≡◌, ◌≢◌, ◌≤◌, Bool, true, false, Some, List, [], ◌∷◌, length, codes, refl, arith, rules, tests}, lemmas.Bool.Decides.{nat_tests, Decides-by_and}}, specs.{Prelude.{◌&&◌, ◌||◌, not, nat_eq, nat_le, IsTrue, All, IfSome, slice_get}, Bool.Decides, Char.is_ascii_alphabetic, Cmp.Lexicographic.{bytes_decides, pointwise}, List.list_all}}
+use Rattle.tc_entry.specs.{declared.limits.TheConstants.NAME_BYTES, Prelude.{IsName, is_name_byte}}
+use Rattle.tc_step.specs.declared.step.Status.{Status}
+use Rattle.tc_reader.specs.{Inside.keyword_text, Words.{is_text, begins_with_letter, is_name, keyword}, declared.line.Keyword.Keyword}
 
 both : (a b : Bool) → (a && b) ≡ true → (a ≡ true) × (b ≡ true)
 both true true e = (refl, refl)
@@ -91,3 +88,8 @@ no_name word missing = by (is_name word) (name_is_said word)
     by false f = refl
 
 pub ruleset naming_rules = (name_is_said, name_is_found, no_name)
+
+pub spelled : (k : Keyword) → keyword (keyword_text k) ≡ Some k
+unfolding keyword is_text
+spelled (Keyword.Ask Status.Running) = refl
+spelled _ = refl

@@ -1,11 +1,8 @@
 -- The places of names in a list, and lines that are in their places and within the limits.
-use Rattle.std.proofs.Common.{ℕ, ◌≡◌, ◌≤◌, ◌<◌, ◌∙◌, ◌+◌, Bool, true, false, Ok, Err, List, [], ◌∷◌, ◌++◌, length, refl, sym, ap, arith, suc, cond, ltb, Some, None}
-use Rattle.std.specs.Prelude.{is_some, not, if◌then◌else◌, ◌||◌}
-use Rattle.std.proofs.lemmas.{Bool.Decides.nat_tests, Bool.le-ltb, Bool.lt-ltb, Bool.ltb-false, Bool.ltb-true, List.Sums.prefix_len-le-length, List.length-append, List.length-map}
-use Rattle.std.specs.List.{list_any, position, position_or_len}
+use Rattle.std.{proofs.{Common.{ℕ, ◌≡◌, ◌≤◌, ◌<◌, ◌∙◌, ◌+◌, Bool, true, false, Ok, Err, List, [], ◌∷◌, ◌++◌, length, refl, sym, ap, arith, suc, cond, ltb, Some, None}, lemmas.{Bool.{Decides.nat_tests, le-ltb, lt-ltb, ltb-false, ltb-true}, List.{Sums.prefix_len-le-length, length-append, length-map}}}, specs.{Prelude.{is_some, not, if◌then◌else◌, ◌||◌}, List.{list_any, position, position_or_len}}}
 use Rattle.tc_entry.specs.declared.limits.TheConstants.{ARGUMENTS, BEHAVIOURS}
 use Rattle.tc_step.specs.declared.limits.TheConstants.{STEPS}
-use Rattle.tc_reader.specs.{FirstPass.argument_count, FirstPass.behaviours_in, FirstPass.open_after, FirstPass.opened, FirstPass.passes_limit, FirstPass.placed, FirstPass.steps_in, Inside.names_of, Inside.place_in, Names.Word, Names.add, Names.all_of, Names.among, Names.index_of, Scope.Head, Scope.bound, Scope.with_bound, Words.is_text, declared.kind.ScriptKind.ScriptKind, declared.line.Call.Call, declared.line.Line.Line, declared.open.Open.Open}
+use Rattle.tc_reader.specs.{FirstPass.{argument_count, behaviours_in, open_after, opened, passes_limit, placed, steps_in}, Inside.{names_of, place_in}, Names.{Word, add, all_of, among, index_of}, Scope.{Head, bound, with_bound}, Words.is_text, declared.{kind.ScriptKind.ScriptKind, line.{Call.Call, Line.Line}, counts.Open.Open}}
 
 -- each of the lines before
 abbrev pub AllPlaced : List Line → Type 0
@@ -54,9 +51,7 @@ unfolding behaviours_in
 few_behaviours [] are = omega arith
 few_behaviours (Line.TestCase n ∷ past) are = omega arith
 few_behaviours (Line.Behaviour n ps ∷ past) are = let low = (few_more past n ps (within_limits past (Line.Behaviour n ps) are.0)).0 in omega (arith, low)
-few_behaviours (Line.Skipped ∷ past) are = few_behaviours past are.1
-few_behaviours (Line.End ∷ past) are = few_behaviours past are.1
-few_behaviours (Line.Step call ∷ past) are = few_behaviours past are.1
+few_behaviours (_ ∷ past) are = few_behaviours past are.1
 
 -- ---- how many names are bound
 
@@ -69,14 +64,7 @@ one_more n ns = by (among n ns)
 
 few_bound : (call : Call) (ns : List Word) → length (with_bound call ns) ≤ length ns + 1
 few_bound (Call.Create n alive given_name) ns = one_more n ns
-few_bound (Call.Start on b args) ns = omega arith
-few_bound (Call.Stop g) ns = omega arith
-few_bound (Call.Kill g) ns = omega arith
-few_bound (Call.Ask s t) ns = omega arith
-few_bound (Call.Wait killed t) ns = omega arith
-few_bound (Call.SetVerdict v) ns = omega arith
-few_bound Call.StopCase ns = omega arith
-few_bound Call.GetVerdict ns = omega arith
+few_bound _ ns = omega arith
 
 few_of_all : (ns ms : List Word) → length (all_of ns ms) ≤ length ns + length ms
 few_of_all ns [] = omega arith
@@ -88,17 +76,15 @@ few_of_all ns (m ∷ ms) =
 pub few_names : (past : List Line) → AllPlaced past → length (bound past) ≤ ARGUMENTS + steps_in past
 unfolding steps_in
 few_names [] are = omega arith
-few_names (Line.TestCase n ∷ past) are = few_names past are.1
 few_names (Line.Behaviour n ps ∷ past) are =
     let all = few_of_all [] ps in
     let few = (few_more past n ps (within_limits past (Line.Behaviour n ps) are.0)).1 in
     omega (arith, all, few)
-few_names (Line.Skipped ∷ past) are = few_names past are.1
-few_names (Line.End ∷ past) are = few_names past are.1
 few_names (Line.Step call ∷ past) are =
     let one = few_bound call (bound past) in
     let next = few_names past are.1 in
     omega (arith, one, next)
+few_names (_ ∷ past) are = few_names past are.1
 
 pub absent_at_end : {X : Type 0} (p : X → Bool) (xs : List X) → position_or_len p xs ≤ length xs → position p xs ≡ None → position_or_len p xs ≡ length xs
 absent_at_end p xs le none = by (ltb (position_or_len p xs) (length xs)) (λ e. omega (arith, ltb-false _ _ e)) none

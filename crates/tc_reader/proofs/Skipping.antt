@@ -1,12 +1,8 @@
 -- Lines at the head of a text that say nothing, and what the first pass remembers of the lines before.
-use Rattle.std.proofs.Common.{ℕ, zero, suc, ◌≡◌, ◌∙◌, ◌+◌, ◌≤◌, Bool, true, false, Ok, List, [], ◌∷◌, ◌++◌, length, refl, sym, ap, subst, cond, arith, Result, Err}
-use Rattle.std.specs.Prelude.{filter, All, nat_le, nat_lt, ◌||◌, if◌then◌else◌, Option, Some, None}
-use Rattle.std.specs.{List.onto_first, List.slice_split, Option.option_map_or}
-use Rattle.std.proofs.lemmas.{Bool.Decides.nat_tests, List.Elements.All-append, List.Elements.All-cons, List.Elements.All-nil, List.append_assoc}
+use Rattle.std.{proofs.{Common.{ℕ, zero, suc, ◌≡◌, ◌∙◌, ◌+◌, ◌≤◌, Bool, true, false, Ok, List, [], ◌∷◌, ◌++◌, length, refl, sym, ap, subst, cond, arith, Result, Err}, lemmas.{Bool.Decides.nat_tests, List.{Elements.{All-append, All-cons, All-nil}, append_assoc}}}, specs.{Prelude.{filter, All, nat_le, nat_lt, ◌||◌, if◌then◌else◌, Option, Some, None}, List.{onto_first, slice_split}, Option.option_map_or}}
 use Rattle.tc_entry.specs.declared.limits.TheConstants.{ARGUMENTS, BEHAVIOURS}
 use Rattle.tc_step.specs.declared.limits.TheConstants.{STEPS}
-use Rattle.tc_reader.specs.{FirstPass.argument_count, FirstPass.behaviours_in, FirstPass.cases_in, FirstPass.open_after, FirstPass.opened, FirstPass.passes_limit, FirstPass.placed, FirstPass.steps_in, Inside.HasBefore, Inside.IsIndented, Inside.Skips, Inside.SkipsOne, Inside.counted, Inside.counted_with, Inside.counts_of, Inside.is_newline, Inside.is_some_text, Inside.is_space, Inside.spaces, Line.line_of, Line.line_with, Inside.BeginsWith, Text.lines, Text.words, declared.counts.Counts.Counts, declared.kind.ScriptKind.ScriptKind, declared.line.Line.Line, declared.open.Open.Open, declared.text.Part.Part}
-use Rattle.tc_reader.proofs.Taking.{HasNoEnd, lines_next}
+use Rattle.tc_reader.{specs.{FirstPass.{argument_count, behaviours_in, cases_in, open_after, opened, passes_limit, placed, steps_in}, Inside.{HasBefore, IsIndented, Skips, SkipsOne, counted, counted_with, counts_of, is_newline, is_some_text, is_space, spaces, BeginsWith}, Line.{line_of, line_with}, Text.{lines, words}, declared.{counts.{Counts.Counts, Open.Open}, kind.ScriptKind.ScriptKind, line.Line.Line, text.Part.Part}}, proofs.Taking.{HasNoEnd, lines_next}}
 
 one_space_more : (n : ℕ) (bytes : List ℕ) → spaces n (32 ∷ bytes) ≡ spaces (suc n) bytes
 one_space_more zero bytes = refl
@@ -20,20 +16,20 @@ no_end : (n : ℕ) (bytes : List ℕ) → HasNoEnd bytes → HasNoEnd (spaces n 
 no_end zero bytes none = none
 no_end (suc n) bytes none = All-cons (λ b. is_newline b ≡ false) 32 (spaces n bytes) refl (no_end n bytes none)
 
-words_behind : (n : ℕ) (bytes : List ℕ) → words (spaces n bytes) ≡ words bytes
+words_after : (n : ℕ) (bytes : List ℕ) → words (spaces n bytes) ≡ words bytes
 unfolding words
-words_behind zero bytes = refl
-words_behind (suc n) bytes = words_behind n bytes
+words_after zero bytes = refl
+words_after (suc n) bytes = words_after n bytes
 
 -- a line that is blank
 blank : (n : ℕ) → line_of (spaces n []) ≡ Ok Line.Skipped
 unfolding line_of words
-blank n = rw (words_behind n []) refl
+blank n = rw (words_after n []) refl
 
 -- a comment
 comment : (n : ℕ) (bytes : List ℕ) → line_of (spaces n (35 ∷ bytes)) ≡ Ok Line.Skipped
 unfolding line_of words
-comment n bytes = rw (words_behind n (35 ∷ bytes)) (by (slice_split is_space bytes))
+comment n bytes = rw (words_after n (35 ∷ bytes)) (by (slice_split is_space bytes))
   where
     by : (ps : List (List ℕ)) → line_with (spaces n (35 ∷ bytes)) (filter is_some_text (onto_first 35 ps)) ≡ Ok Line.Skipped
     by [] = refl
@@ -145,13 +141,12 @@ within past l s false is same = (is, same)
 counts_at : (past : List Line) (l : Line) (o : Open) → opened (l ∷ past) ≡ o → (placed past l ≡ (if passes_limit l past then Err ScriptKind.TooMany else Ok l))
     → Agrees past l (counted_with l o (counts_of past))
 unfolding cases_in behaviours_in steps_in
-counts_at past Line.Skipped o e is = (is, rw e refl)
 counts_at past (Line.TestCase n) o e is = within past (Line.TestCase n) _ (nat_le 1000 (cases_in past)) is (rw e (ap (λ k. made o k 0 (steps_in past)) (omega arith)))
 counts_at past (Line.Behaviour n ps) o e is =
     within past (Line.Behaviour n ps) _ (nat_le BEHAVIOURS (behaviours_in past) || nat_lt ARGUMENTS (length ps)) is (rw e (ap (λ k. made o (cases_in past) k 0) (omega arith)))
-counts_at past Line.End o e is = (is, rw e refl)
 counts_at past (Line.Step call) o e is =
     within past (Line.Step call) _ (nat_le STEPS (steps_in past) || nat_lt ARGUMENTS (argument_count call)) is (rw e (ap (λ k. made o (cases_in past) (behaviours_in past) k) (omega arith)))
+counts_at past _ o e is = (is, rw e refl)
 
 pub counted_agrees : (past : List Line) (l : Line) → Agrees past l (counted (counts_of past) l)
 counted_agrees past l = by (open_after l (opened past)) refl

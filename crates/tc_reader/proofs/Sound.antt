@@ -1,11 +1,8 @@
 -- Lines without a fault make scripts.
-use Rattle.std.proofs.Common.{All, ℕ, ◌≡◌, ◌+◌, ◌<◌, ◌≤◌, Ok, None, List, [], ◌∷◌, length, arith, rules}
-use Rattle.std.proofs.lemmas.List.Elements.{All-cons}
+use Rattle.std.proofs.{Common.{All, ℕ, ◌≡◌, ◌+◌, ◌<◌, ◌≤◌, Ok, None, List, [], ◌∷◌, length, arith, rules}, lemmas.List.Elements.All-cons}
 use Rattle.tc_entry.specs.declared.limits.TheConstants.{ARGUMENTS, BEHAVIOURS}
-use Rattle.tc_step.specs.declared.limits.TheConstants.{STEPS}
-use Rattle.tc_step.specs.Prelude.{ScriptView}
-use Rattle.tc_reader.specs.{Campaign.behaviours, Campaign.cases, Campaign.steps, FirstPass.behaviours_in, FirstPass.placed, FirstPass.steps_in, Inside.AreCases, Inside.AreScripts, Inside.MakesScript, Inside.add_head, Names.Word, Names.all_of, Scope.Head, Scope.heads, Scope.heads_with, Scope.with_bound, SecondPass.misnamed, declared.line.Line.Line}
-use Rattle.tc_reader.proofs.{Binding.named_next, Binding.places_bound, Binding.head_more, Placed.AllPlaced, Placed.few_given, Placed.few_more, Placed.within_limits}
+use Rattle.tc_step.specs.{declared.limits.TheConstants.STEPS, Prelude.ScriptView}
+use Rattle.tc_reader.{specs.{Campaign.{behaviours, cases, steps}, FirstPass.{behaviours_in, placed, steps_in}, Inside.{AreCases, AreScripts, MakesScript, add_head}, Names.{Word, all_of}, Scope.{Head, heads, heads_with, with_bound}, SecondPass.misnamed, declared.line.Line.Line}, proofs.{Binding.{named_next, places_bound, head_more}, Placed.{AllPlaced, few_given, few_more, within_limits}}}
 
 -- each line is in its place, and within the limits
 abbrev pub ArePlaced : List Line → List Line → Type 0
@@ -32,9 +29,7 @@ few_steps hs ns past (Line.Step call ∷ rest) are few =
     let long = few_steps hs (with_bound call ns) (Line.Step call ∷ past) rest are.1 more in
     omega (arith, long)
 few_steps hs ns past (Line.Skipped ∷ rest) are few = few_steps hs ns (Line.Skipped ∷ past) rest are.1 few
-few_steps hs ns past (Line.TestCase n ∷ rest) are few = grind arith
-few_steps hs ns past (Line.Behaviour n ps ∷ rest) are few = grind arith
-few_steps hs ns past (Line.End ∷ rest) are few = grind arith
+few_steps hs ns past (_ ∷ rest) are few = grind arith
 
 few_heads : (hs : List Head) (past rest : List Line) → ArePlaced past rest → length hs ≤ behaviours_in past → behaviours_in past ≤ BEHAVIOURS → length (heads_with hs rest) ≤ BEHAVIOURS
 unfolding behaviours_in
@@ -44,9 +39,7 @@ few_heads hs past (Line.Behaviour n ps ∷ rest) are le few =
     let low : behaviours_in past < BEHAVIOURS = (few_more past n ps (within_limits past (Line.Behaviour n ps) are.0)).0 in
     let grown : length (add_head n (length ps) hs) ≤ length hs + 1 = head_more n (length ps) hs in
     few_heads (add_head n (length ps) hs) (Line.Behaviour n ps ∷ past) rest are.1 (omega (arith, le, grown)) (omega (arith, low))
-few_heads hs past (Line.Skipped ∷ rest) are le few = few_heads hs (Line.Skipped ∷ past) rest are.1 le few
-few_heads hs past (Line.End ∷ rest) are le few = few_heads hs (Line.End ∷ past) rest are.1 le few
-few_heads hs past (Line.Step call ∷ rest) are le few = few_heads hs (Line.Step call ∷ past) rest are.1 le few
+few_heads hs past (l ∷ rest) are le few = few_heads hs (l ∷ past) rest are.1 le few
 
 -- ---- scripts
 
@@ -66,10 +59,7 @@ are_scripts hs past (Line.Behaviour n ps ∷ rest) are named =
       },
       are_scripts hs (Line.Behaviour n ps ∷ past) rest are.1 two.1,
     )
-are_scripts hs past (Line.TestCase n ∷ rest) are named = are_scripts hs (Line.TestCase n ∷ past) rest are.1 (named_next past (Line.TestCase n) rest named).1
-are_scripts hs past (Line.Skipped ∷ rest) are named = are_scripts hs (Line.Skipped ∷ past) rest are.1 (named_next past Line.Skipped rest named).1
-are_scripts hs past (Line.End ∷ rest) are named = are_scripts hs (Line.End ∷ past) rest are.1 (named_next past Line.End rest named).1
-are_scripts hs past (Line.Step call ∷ rest) are named = are_scripts hs (Line.Step call ∷ past) rest are.1 (named_next past (Line.Step call) rest named).1
+are_scripts hs past (l ∷ rest) are named = are_scripts hs (l ∷ past) rest are.1 (named_next past l rest named).1
 
 pub are_cases : (past ls : List Line) → ArePlaced past ls → misnamed past ls ≡ None → AreCases ls
 unfolding heads behaviours_in
@@ -77,18 +67,13 @@ are_cases past [] are named = tt
 are_cases past (Line.TestCase n ∷ rest) are named =
     let two = named_next past (Line.TestCase n) rest named in
     (few_heads [] (Line.TestCase n ∷ past) rest are.1 (omega arith) (omega arith), are_scripts (heads rest) (Line.TestCase n ∷ past) rest are.1 two.1, are_cases (Line.TestCase n ∷ past) rest are.1 two.1)
-are_cases past (Line.Behaviour n ps ∷ rest) are named = are_cases (Line.Behaviour n ps ∷ past) rest are.1 (named_next past (Line.Behaviour n ps) rest named).1
-are_cases past (Line.Skipped ∷ rest) are named = are_cases (Line.Skipped ∷ past) rest are.1 (named_next past Line.Skipped rest named).1
-are_cases past (Line.End ∷ rest) are named = are_cases (Line.End ∷ past) rest are.1 (named_next past Line.End rest named).1
-are_cases past (Line.Step call ∷ rest) are named = are_cases (Line.Step call ∷ past) rest are.1 (named_next past (Line.Step call) rest named).1
+are_cases past (l ∷ rest) are named = are_cases (l ∷ past) rest are.1 (named_next past l rest named).1
 
 each_is : (hs : List Head) (ls : List Line) → AreScripts hs ls → All MakesScript (behaviours hs ls)
 each_is hs [] are = search rules
 each_is hs (Line.TestCase n ∷ rest) are = search rules
 each_is hs (Line.Behaviour n ps ∷ rest) are = All-cons MakesScript (n, record { parameters = length ps; steps = steps hs (all_of [] ps) rest }) (behaviours hs rest) are.0 (each_is hs rest are.1)
-each_is hs (Line.Skipped ∷ rest) are = each_is hs rest are
-each_is hs (Line.End ∷ rest) are = each_is hs rest are
-each_is hs (Line.Step call ∷ rest) are = each_is hs rest are
+each_is hs (_ ∷ rest) are = each_is hs rest are
 
 abbrev pub MakesScripts : Word × List (Word × ScriptView) → Type 0
 MakesScripts t = All MakesScript t.1
@@ -97,7 +82,4 @@ MakesScripts t = All MakesScript t.1
 pub scripts_are : (ls : List Line) → AreCases ls → All MakesScripts (cases ls)
 scripts_are [] are = search rules
 scripts_are (Line.TestCase n ∷ rest) are = All-cons MakesScripts (n, behaviours (heads rest) rest) (cases rest) (each_is (heads rest) rest are.1) (scripts_are rest are.2)
-scripts_are (Line.Behaviour n ps ∷ rest) are = scripts_are rest are
-scripts_are (Line.Skipped ∷ rest) are = scripts_are rest are
-scripts_are (Line.End ∷ rest) are = scripts_are rest are
-scripts_are (Line.Step call ∷ rest) are = scripts_are rest are
+scripts_are (_ ∷ rest) are = scripts_are rest are

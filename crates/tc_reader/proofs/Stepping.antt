@@ -1,12 +1,8 @@
 -- What the commonest lines say, and what the walk makes of them.
-use Rattle.std.proofs.Common.{ℕ, ◌≡◌, ◌∙◌, ◌+◌, ◌≤◌, get_or, Bool, true, false, Option, Some, None, Result, Ok, Err, List, [], ◌∷◌, ◌++◌, length, All, refl, sym, ap, subst, arith, codes, rules, tests}
-use Rattle.std.specs.Prelude.{◌==◌, ◌&&◌, ◌||◌, nat_le, nat_lt, if◌then◌else◌, is_some, not, IsTrue}
-use Rattle.std.specs.{Char.is_ascii_alphabetic, Char.is_ascii_alphanumeric, Cmp.Lexicographic.bytes_decides, List.list_all, List.list_any, List.slice_split, Option.option_map, Option.option_map_or}
-use Rattle.std.proofs.lemmas.{Bool.Decides.Decides-by_and, Bool.Decides.nat_tests, List.Splits.slice_split_none}
+use Rattle.std.{proofs.{Common.{ℕ, ◌≡◌, ◌∙◌, ◌+◌, get_or, Bool, true, false, Some, None, Ok, Err, List, [], ◌∷◌, ◌++◌, length, All, refl, sym, ap, arith, codes, tests}, lemmas.{Bool.Decides.{Decides-by_and, nat_tests}, List.Splits.slice_split_none}}, specs.{Prelude.{◌==◌, ◌&&◌, nat_le, if◌then◌else◌, is_some, IsTrue}, Cmp.Lexicographic.bytes_decides, List.{list_all, slice_split}, Option.option_map_or}}
 use Rattle.tc_entry.specs.Prelude.{IsName, UserVerdict, given, is_name_byte, name_of}
-use Rattle.tc_step.specs.declared.{place.Place.Place, place.TargetPlace.TargetPlace, step.Status.Status, step.Step.Step}
-use Rattle.tc_reader.specs.{Campaign.step_of, FirstPass.argument_count, FirstPass.open_after, Inside.IsStepOf, Inside.IsTargetOf, Inside.Takes, Inside.WalkView, Inside.after, Inside.counted, Inside.counted_with, Inside.fault_in, Inside.keyword_text, Inside.made_step, Inside.place_in, Inside.with_made_step, Inside.with_start, Line.are_printable, Line.form, Line.line_of, Line.reference, Line.target_named, Line.word_name, Line.◌>>=◌, Names.Word, Names.among, Names.index_of, Scope.with_bound, Text.words, Words.is_name, Words.is_text, Words.keyword, Words.name, Words.verdict, declared.counts.Counts.Counts, declared.fault.ReadFault.ReadFault, declared.kind.ScriptKind.ScriptKind, declared.line.Call.Call, declared.line.Keyword.Keyword, declared.line.Line.Line, declared.open.Open.Open}
-use Rattle.tc_reader.proofs.Naming.{name_is_found, name_is_said, other_is}
+use Rattle.tc_step.specs.declared.{place.{Place.Place, TargetPlace.TargetPlace}, step.{Status.Status, Step.Step}}
+use Rattle.tc_reader.{specs.{Campaign.step_of, FirstPass.{argument_count, open_after}, Inside.{IsStepOf, IsTargetOf, Takes, WalkView, after, counted, counted_with, fault_in, keyword_text, made_step, place_in, with_made_step}, Line.{are_printable, form, line_of, reference, target_named, word_name}, Names.{Word, among, index_of}, Text.words, Words.{is_name, is_text, keyword, name, verdict}, declared.{counts.{Counts.Counts, Open.Open}, fault.ReadFault.ReadFault, kind.ScriptKind.ScriptKind, line.{Call.Call, Keyword.Keyword, Line.Line}}}, proofs.Naming.{name_is_found, name_is_said, other_is}}
 
 same : (line text : List ℕ) → is_text line text ≡ true → line ≡ text
 unfolding is_text
@@ -21,9 +17,7 @@ gets = refl
 sets : (v : UserVerdict) → line_of (codes "setverdict " ++ name_of (given v)) ≡ Ok (Line.Step (Call.SetVerdict v))
 unfolding line_of words is_text keyword verdict are_printable form
 sets UserVerdict.None = refl
-sets UserVerdict.Pass = refl
-sets UserVerdict.Inconc = refl
-sets UserVerdict.Fail = refl
+sets _ = refl
 
 pub get : (line : List ℕ) (ns : List Word) → is_text line (codes "getverdict") ≡ true → IsStepOf ns line Step.GetVerdict
 unfolding step_of
@@ -47,9 +41,7 @@ asks : (s : Status) (word : List ℕ) (t : TargetPlace (Place Word)) → IsOne w
     → line_of (keyword_text (Keyword.Ask s) ++ 32 ∷ word) ≡ Ok (Line.Step (Call.Ask s t))
 unfolding line_of words is_text keyword are_printable form
 asks Status.Running word t one is = rw (one.is_one, one.is_printable, one.is_some, is) refl
-asks Status.Alive word t one is = rw (one.is_one, one.is_printable, one.is_some, is) refl
-asks Status.Done word t one is = rw (one.is_one, one.is_printable, one.is_some, is) refl
-asks Status.Killed word t one is = rw (one.is_one, one.is_printable, one.is_some, is) refl
+asks _ word t one is = rw (one.is_one, one.is_printable, one.is_some, is) refl
 
 named_by : (ns : List Word) (word text : List ℕ) (t : TargetPlace (Place ℕ)) (named : TargetPlace (Place Word)) → is_text word text ≡ true → IsOne text → target_named text ≡ Ok named
     → ((s : Status) → made_step ns (Call.Ask s named) ≡ Ok (Step.Ask s t)) → IsTargetOf ns word t
@@ -133,10 +125,8 @@ pub ruleset ask_rules = (ask)
 counted_so : (counts : Counts) (o : Open) (call : Call) → argument_count call ≡ 0
     → option_map_or (λ o. counted_with (Line.Step call) o counts) (open_after (Line.Step call) o) (Err ScriptKind.BadPlace)
     ≡ option_map_or (λ o. counted_with (Line.Step Call.GetVerdict) o counts) (open_after (Line.Step Call.GetVerdict) o) (Err ScriptKind.BadPlace)
-counted_so counts Open.Nothing call few = refl
-counted_so counts Open.NewCase call few = refl
-counted_so counts Open.Case call few = refl
 counted_so counts Open.Behaviour call few = rw few refl
+counted_so counts _ call few = refl
 
 after_step : (number : ℕ) (w : WalkView) (bytes : List ℕ) (s : Step) → (is : IsStepOf w.names.bound bytes s) → after number (Line.Step is.call) w ≡ with_made_step s w
 after_step number w bytes s is = by (is_some w.fault) refl

@@ -1,10 +1,7 @@
 -- Taking the first line of a text.
-use Rattle.std.proofs.Common.{ℕ, suc, ◌≡◌, ◌∙◌, ◌+◌, ◌-◌, ◌<◌, ◌≤◌, Bool, true, false, List, [], ◌∷◌, ◌++◌, length, take, drop, refl, sym, ap, get_or, arith, drop-cons}
-use Rattle.std.specs.Prelude.{◌==◌, if◌then◌else◌, slice_index, All, Some, None}
-use Rattle.std.proofs.lemmas.{Bool.Decides.nat_tests, Grind.get_or_default_zero, List.Splits.length-slice_split, List.Splits.slice_split_at, List.Splits.slice_split_none, List.Sums.count_by-le-length, List.append-nil, List.get_or-take, List.length-drop, List.length-take-le, List.take-append-drop, List.take_all}
+use Rattle.std.{proofs.{Common.{ℕ, suc, ◌≡◌, ◌∙◌, ◌+◌, ◌-◌, ◌<◌, ◌≤◌, Bool, true, false, List, [], ◌∷◌, ◌++◌, length, take, drop, refl, sym, ap, get_or, arith, drop-cons}, lemmas.{Bool.Decides.nat_tests, Grind.get_or_default_zero, List.{Splits.{length-slice_split, slice_split_at, slice_split_none}, Sums.count_by-le-length, append-nil, get_or-take, length-drop, length-take-le, take-append-drop, take_all}}}, specs.{Prelude.{◌==◌, if◌then◌else◌, slice_index, All, Some, None}, List.slice_split}}
 use Rattle.memchr.specs.Find.{IsFirstByte, is_byte}
-use Rattle.std.specs.List.{slice_split}
-use Rattle.tc_reader.specs.{Inside.is_newline, Text.lines, Text.without_end}
+use Rattle.tc_reader.specs.{Inside.is_newline, Text.{lines, without_end}}
 
 -- no byte of the text is a line feed
 abbrev pub HasNoEnd : List ℕ → Type 0
@@ -14,8 +11,8 @@ at_last : (text : List ℕ) (n : ℕ) → length text ≡ n + 1 → without_end 
 unfolding without_end
 at_last text n long = let e : length text - 1 ≡ n = omega (arith, long) in rw e refl
 
-cut_behind : (b c : ℕ) (rest : List ℕ) → without_end (b ∷ c ∷ rest) ≡ b ∷ without_end (c ∷ rest)
-cut_behind b c rest = at_last (b ∷ c ∷ rest) (suc (length rest)) (omega arith) ∙ by (slice_index (c ∷ rest) (length rest) == 10) ∙ sym (ap (λ xs. b ∷ xs) (at_last (c ∷ rest) (length rest) (omega arith)))
+cut_on : (b c : ℕ) (rest : List ℕ) → without_end (b ∷ c ∷ rest) ≡ b ∷ without_end (c ∷ rest)
+cut_on b c rest = at_last (b ∷ c ∷ rest) (suc (length rest)) (omega arith) ∙ by (slice_index (c ∷ rest) (length rest) == 10) ∙ sym (ap (λ xs. b ∷ xs) (at_last (c ∷ rest) (length rest) (omega arith)))
   where
     by : (x : Bool) → (if x then take (suc (length rest)) (b ∷ c ∷ rest) else b ∷ c ∷ rest) ≡ b ∷ (if x then take (length rest) (c ∷ rest) else c ∷ rest)
     by true = refl
@@ -23,8 +20,8 @@ cut_behind b c rest = at_last (b ∷ c ∷ rest) (suc (length rest)) (omega arit
 
 cut_after : (front : List ℕ) (c : ℕ) (rest : List ℕ) → without_end (front ++ c ∷ rest) ≡ front ++ without_end (c ∷ rest)
 cut_after [] c rest = refl
-cut_after (b ∷ []) c rest = cut_behind b c rest
-cut_after (b ∷ d ∷ front) c rest = cut_behind b d (front ++ c ∷ rest) ∙ ap (λ xs. b ∷ xs) (cut_after (d ∷ front) c rest)
+cut_after (b ∷ []) c rest = cut_on b c rest
+cut_after (b ∷ d ∷ front) c rest = cut_on b d (front ++ c ∷ rest) ∙ ap (λ xs. b ∷ xs) (cut_after (d ∷ front) c rest)
 
 some_lines : (text : List ℕ) → 1 ≤ length text → lines text ≡ slice_split is_newline (without_end text)
 unfolding lines
@@ -63,7 +60,7 @@ unfolding lines
 lines_next front [] none =
     some_lines (front ++ 10 ∷ []) (longer front 10 []) ∙ ap (slice_split is_newline) (cut_after front 10 [] ∙ ap (λ xs. front ++ xs) lone_end ∙ append-nil front) ∙ slice_split_none is_newline front none
 lines_next front (c ∷ rest) none =
-    some_lines (front ++ 10 ∷ c ∷ rest) (longer front 10 (c ∷ rest)) ∙ ap (slice_split is_newline) (cut_after front 10 (c ∷ rest) ∙ ap (λ xs. front ++ xs) (cut_behind 10 c rest))
+    some_lines (front ++ 10 ∷ c ∷ rest) (longer front 10 (c ∷ rest)) ∙ ap (slice_split is_newline) (cut_after front 10 (c ∷ rest) ∙ ap (λ xs. front ++ xs) (cut_on 10 c rest))
     ∙ slice_split_at is_newline front 10 (without_end (c ∷ rest)) none refl ∙ ap (λ xs. front ∷ xs) (sym (some_lines (c ∷ rest) (omega arith)))
 
 not_true : (b : Bool) → (b ≡ true → ⊥) → b ≡ false

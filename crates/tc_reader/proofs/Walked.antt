@@ -1,12 +1,8 @@
 -- What the walk has found of the lines before, whatever lines follow.
-use Rattle.std.proofs.Common.{ℕ, suc, ◌≡◌, ◌≤◌, ◌∙◌, ◌+◌, Bool, true, false, Option, Some, None, Result, Ok, Err, List, [], ◌∷◌, ◌++◌, length, All, refl, sym, ap, arith, append_assoc}
-use Rattle.std.specs.Prelude.{is_some, if◌then◌else◌}
-use Rattle.std.specs.{List.list_any, Option.option_map, Option.option_map_or, Option.option_or, Option.unwrap_or}
-use Rattle.std.proofs.lemmas.List.{Elements.All-same, append-nil, map-append}
-use Rattle.tc_step.specs.declared.step.Step.{Step}
-use Rattle.tc_step.specs.Prelude.{ScriptView, of_group, of_target}
-use Rattle.tc_reader.specs.{Campaign.CampaignView, Campaign.behaviours, Campaign.cases, Campaign.step_of, Campaign.steps, FirstPass.at_next, FirstPass.behaviours_in, FirstPass.open_after, FirstPass.opened, FirstPass.placed, Inside.AreCases, Inside.MadeView, Inside.MakeScripts, Inside.MayEnd, Inside.WalkView, Inside.after, Inside.all_filled, Inside.begins, Inside.called as after_call, Inside.case_ended, Inside.case_left, Inside.ended, Inside.fault_at_end, Inside.fault_in, Inside.finished, Inside.first_wrong, Inside.head_fault, Inside.made_step, Inside.names_at, Inside.names_of, Inside.or_fault, Inside.start_kind, Inside.started_of, Inside.with_last, Inside.with_start, Inside.with_step, Names.Word, Names.add, Names.among, Scope.Head, Scope.behaviours_before, Scope.bound, Scope.cases_before, Scope.heads, Scope.heads_around, Scope.heads_with, Scope.scope_of, Scope.with_bound, SecondPass.is_unbound, SecondPass.misnamed, SecondPass.name_fault, declared.fault.ScriptFault.ScriptFault, declared.kind.ScriptKind.ScriptKind, declared.line.Call.Call, declared.line.Line.Line, declared.open.Open.Open, declared.starts.Start.Start}
-use Rattle.tc_reader.proofs.{Binding.add_named, Binding.head_is, Binding.head_more, Making.all_fill, Making.called, Making.called_in, Placed.AllPlaced, Placed.few_behaviours, Placed.in_behaviour, Placed.not_nothing, Sound.MakesScripts, Sound.are_cases, Sound.are_placed, Sound.onto, Sound.scripts_are}
+use Rattle.std.{proofs.{Common.{ℕ, suc, ◌≡◌, ◌≤◌, ◌∙◌, ◌+◌, Bool, true, false, Option, Some, None, Result, Ok, Err, List, [], ◌∷◌, ◌++◌, length, All, refl, sym, ap, arith, append_assoc}, lemmas.List.{Elements.All-same, append-nil, map-append}}, specs.{Prelude.{is_some, if◌then◌else◌}, List.list_any, Option.{option_map, option_map_or, option_or, unwrap_or}}}
+use Rattle.tc_step.specs.{declared.step.Step.Step, Prelude.{ScriptView, of_group, of_target}}
+use Rattle.tc_reader.specs.{Campaign.CampaignView, Campaign.behaviours, Campaign.cases, Campaign.step_of, Campaign.steps, FirstPass.at_next, FirstPass.behaviours_in, FirstPass.open_after, FirstPass.opened, FirstPass.placed, Inside.AreCases, Inside.MadeView, Inside.MakeScripts, Inside.MayEnd, Inside.WalkView, Inside.after, Inside.all_filled, Inside.begins, Inside.called as after_call, Inside.case_ended, Inside.case_left, Inside.ended, Inside.fault_at_end, Inside.fault_in, Inside.finished, Inside.first_wrong, Inside.head_fault, Inside.made_step, Inside.names_at, Inside.names_of, Inside.or_fault, Inside.start_kind, Inside.started_of, Inside.with_last, Inside.with_start, Inside.with_step, Names.Word, Names.add, Names.among, Scope.Head, Scope.behaviours_before, Scope.bound, Scope.cases_before, Scope.heads, Scope.heads_around, Scope.heads_with, Scope.scope_of, Scope.with_bound, SecondPass.is_unbound, SecondPass.misnamed, SecondPass.name_fault, declared.fault.ScriptFault.ScriptFault, declared.kind.ScriptKind.ScriptKind, declared.line.Call.Call, declared.line.Line.Line, declared.counts.Open.Open, declared.starts.Start.Start}
+use Rattle.tc_reader.proofs.{Binding.{add_named, head_is, head_more}, Making.{all_fill, called, called_in}, Placed.{AllPlaced, few_behaviours, in_behaviour, not_nothing}, Sound.{MakesScripts, are_cases, are_placed, onto, scripts_are}}
 
 -- ---- faults
 
@@ -57,9 +53,7 @@ call_fault cs bs ns hs (Call.Stop g) = unbound (list_any (is_unbound ns) (of_gro
 call_fault cs bs ns hs (Call.Kill g) = unbound (list_any (is_unbound ns) (of_group g)) (step_of [] ns (Call.Kill g)) None
 call_fault cs bs ns hs (Call.Ask s t) = unbound (list_any (is_unbound ns) (of_target t)) (step_of [] ns (Call.Ask s t)) None
 call_fault cs bs ns hs (Call.Wait killed t) = unbound (list_any (is_unbound ns) (of_target t)) (step_of [] ns (Call.Wait killed t)) None
-call_fault cs bs ns hs (Call.SetVerdict v) = refl
-call_fault cs bs ns hs Call.StopCase = refl
-call_fault cs bs ns hs Call.GetVerdict = refl
+call_fault cs bs ns hs _ = refl
 
 step_made : (again unnamed : Bool) (x s : Step) → (if again then Err ScriptKind.Twice else option_map_or (λ y. Ok y) (if unnamed then None else Some x) (Err ScriptKind.NoReference)) ≡ Ok s → x ≡ s
 step_made true unnamed x s e = absurd cc
@@ -72,25 +66,11 @@ started number call = with_start [] number call
 
 with_start_is : (starts : List Start) (number : ℕ) (call : Call) → with_start starts number call ≡ starts ++ started number call
 with_start_is starts number (Call.Start on b args) = refl
-with_start_is starts number (Call.Create n alive given_name) = sym (append-nil starts)
-with_start_is starts number (Call.Stop g) = sym (append-nil starts)
-with_start_is starts number (Call.Kill g) = sym (append-nil starts)
-with_start_is starts number (Call.Ask s t) = sym (append-nil starts)
-with_start_is starts number (Call.Wait killed t) = sym (append-nil starts)
-with_start_is starts number (Call.SetVerdict v) = sym (append-nil starts)
-with_start_is starts number Call.StopCase = sym (append-nil starts)
-with_start_is starts number Call.GetVerdict = sym (append-nil starts)
+with_start_is starts number _ = sym (append-nil starts)
 
 first_started : (hs : List Head) (number : ℕ) (call : Call) → first_wrong hs (started number call) ≡ option_map (fault_in number) (start_fault hs call)
 first_started hs number (Call.Start on b args) = or_none (option_map (fault_in number) (start_kind hs b (length args)))
-first_started hs number (Call.Create n alive given_name) = refl
-first_started hs number (Call.Stop g) = refl
-first_started hs number (Call.Kill g) = refl
-first_started hs number (Call.Ask s t) = refl
-first_started hs number (Call.Wait killed t) = refl
-first_started hs number (Call.SetVerdict v) = refl
-first_started hs number Call.StopCase = refl
-first_started hs number Call.GetVerdict = refl
+first_started hs number _ = refl
 
 wrong_more : (hs : List Head) (starts more : List Start) → first_wrong hs (starts ++ more) ≡ option_or (first_wrong hs starts) (first_wrong hs more)
 wrong_more hs [] more = refl
@@ -227,9 +207,7 @@ walked_end w past is at = record {
   where
     by : (o : Open) → unwrap_or (open_after Line.End o) Open.Nothing ≡ Open.Behaviour → ⊥
     by Open.Nothing e = absurd cc
-    by Open.NewCase e = absurd cc
-    by Open.Case e = absurd cc
-    by Open.Behaviour e = absurd cc
+    by _ e = absurd cc
 
 behaviour_made : (c : Option Word) (number : ℕ) (n : Word) (ps : List Word) (w : WalkView) (past : List Line) → IsMade c w past
     → IsMade c (after number (Line.Behaviour n ps) w) (Line.Behaviour n ps ∷ past)
@@ -269,14 +247,7 @@ walked_behaviour n ps w past is at =
 
 with_started : (call : Call) (rest : List Line) (number : ℕ) → called_in (Line.Step call ∷ rest) ≡ started_of (started number call) ++ called_in rest
 with_started (Call.Start on b args) rest number = refl
-with_started (Call.Create n alive given_name) rest number = refl
-with_started (Call.Stop g) rest number = refl
-with_started (Call.Kill g) rest number = refl
-with_started (Call.Ask s t) rest number = refl
-with_started (Call.Wait killed t) rest number = refl
-with_started (Call.SetVerdict v) rest number = refl
-with_started Call.StopCase rest number = refl
-with_started Call.GetVerdict rest number = refl
+with_started _ rest number = refl
 
 call_made : (c : Option Word) (number : ℕ) (call : Call) (s : Step) (w : WalkView) (past : List Line) → IsMade c w past → w.fault ≡ None → step_of [] w.names.bound call ≡ s → is_some w.made.current ≡ true
     → IsMade c (after_call number call (Ok s) w) (Line.Step call ∷ past)

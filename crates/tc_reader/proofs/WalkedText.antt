@@ -1,13 +1,9 @@
 -- Walking over the lines of a text, and what the commonest lines say.
-use Rattle.std.proofs.Common.{ℕ, suc, ◌≡◌, ◌≤◌, ◌∙◌, ◌+◌, ◌^◌, Bool, true, false, Option, Some, None, Result, Ok, Err, List, [], ◌∷◌, ◌++◌, length, All, refl, sym, ap, subst, arith, append_assoc, codes}
-use Rattle.std.specs.Prelude.{◌||◌, nat_le, nat_lt, reverse, if◌then◌else◌}
-use Rattle.std.specs.{Cmp.Lexicographic.bytes_decides, Option.option_map_or}
-use Rattle.std.proofs.lemmas.{Bool.Decides.nat_tests, List.append-nil, List.length-append, List.reverse-append}
+use Rattle.std.{proofs.{Common.{ℕ, suc, ◌≡◌, ◌≤◌, ◌∙◌, ◌+◌, ◌^◌, Bool, true, false, Option, Some, None, Result, Ok, Err, List, [], ◌∷◌, ◌++◌, length, All, refl, sym, ap, subst, arith, append_assoc}, lemmas.{Bool.Decides.nat_tests, List.{append-nil, length-append, reverse-append}}}, specs.{Prelude.{◌||◌, nat_le, nat_lt, reverse, if◌then◌else◌}, Option.option_map_or}}
 use Rattle.tc_entry.specs.declared.limits.TheConstants.{ARGUMENTS}
 use Rattle.tc_step.specs.declared.limits.TheConstants.{STEPS}
-use Rattle.tc_entry.specs.Prelude.{UserVerdict}
-use Rattle.tc_reader.specs.{Campaign.CampaignView, Campaign.Reads, Campaign.campaign, Campaign.cases, FirstPass.argument_count, FirstPass.cases_in, FirstPass.ends_well, Inside.judged, FirstPass.open_after, FirstPass.opened, FirstPass.parsed, FirstPass.steps_in, Inside.IsCampaign, Inside.IsWithin, Inside.MayTake, Inside.Takes, Inside.WalkView, Inside.after, Inside.begins, Inside.counted, Inside.counted_with, Inside.counts_of, Inside.ended, Inside.fault_at_end, Inside.fault_in, Inside.may_end as text_may_end, Line.are_printable, Line.form, Line.line_of, Line.◌>>=◌, Scope.bound, SecondPass.misnamed, Inside.BeginsWith, Text.lines as lines_of, Text.words, Words.is_text, Words.keyword, Words.verdict, declared.counts.Counts.Counts, declared.fault.ReadFault.ReadFault, declared.fault.ScriptFault.ScriptFault, declared.kind.ScriptKind.ScriptKind, declared.line.Call.Call, declared.line.Line.Line, declared.open.Open.Open, declared.text.Part.Part}
-use Rattle.tc_reader.proofs.{Lawful.case_names, Lawful.cases_are, Placed.few_names, Skipping.Agrees, Skipping.counted_agrees, Skipping.skipped_agrees, Sound.onto, Taking.few_lines, Walked.IsWalked, Walked.all_cases, Walked.cases_end, Walked.may_end, Walked.named_end, Walked.walked_first, Walked.walked_more, Walked.walked_skipped}
+use Rattle.tc_reader.specs.{Campaign.CampaignView, Campaign.Reads, Campaign.campaign, Campaign.cases, FirstPass.argument_count, FirstPass.cases_in, FirstPass.ends_well, Inside.judged, FirstPass.open_after, FirstPass.opened, FirstPass.parsed, FirstPass.steps_in, Inside.IsCampaign, Inside.IsWithin, Inside.MayTake, Inside.Takes, Inside.WalkView, Inside.after, Inside.begins, Inside.counted, Inside.counted_with, Inside.counts_of, Inside.ended, Inside.fault_at_end, Inside.fault_in, Inside.may_end as text_may_end, Line.line_of, Line.◌>>=◌, Scope.bound, SecondPass.misnamed, Inside.BeginsWith, Text.lines as lines_of, declared.counts.Counts.Counts, declared.fault.ReadFault.ReadFault, declared.fault.ScriptFault.ScriptFault, declared.kind.ScriptKind.ScriptKind, declared.line.Line.Line, declared.counts.Open.Open, declared.text.Part.Part}
+use Rattle.tc_reader.proofs.{Lawful.{case_names, cases_are}, Placed.few_names, Skipping.{Agrees, counted_agrees, skipped_agrees}, Sound.onto, Taking.few_lines, Walked.{IsWalked, all_cases, cases_end, may_end, named_end, walked_first, walked_more, walked_skipped}}
 
 -- what was read of a text: some lines, after which these are left
 pub record IsRead (w : WalkView) (counts : Counts) (number : ℕ) (texts : List (List ℕ)) (total : Result (List Line) ScriptFault) : Type 0 where
@@ -54,10 +50,7 @@ is_within counts more ns (Line.Step call) is few = by (open_after (Line.Step cal
     by : (o : Option Open) → option_map_or (λ o. counted_with (Line.Step call) o counts) o (Err ScriptKind.BadPlace) ≡ Ok more → IsWithin ns (Line.Step call)
     by None e = absurd cc
     by (Some o) e = within o e
-is_within counts more ns Line.Skipped is few = tt
-is_within counts more ns Line.End is few = tt
-is_within counts more ns (Line.TestCase n) is few = tt
-is_within counts more ns (Line.Behaviour n ps) is few = tt
+is_within counts more ns _ is few = tt
 
 -- what became of a line, by what it says
 pub taken : (number : ℕ) (counts more : Counts) (w next : WalkView) (l : Line) (said : Result Line ScriptKind) → said ≡ Ok l → counted counts l ≡ Ok more → next ≡ after number l w

@@ -1,10 +1,8 @@
 -- The campaign that a text spells, or its first fault; and what holds of each of its test cases.
-use Rattle.std.specs.Prelude.{ℕ, Result, Ok, Err, List, [], ◌∷◌, length, map, ◌≡◌, false, ◌≤◌, Some, IfSome, slice_get, All}
-use Rattle.std.specs.Option.{option_map_or, option_map}
-use Rattle.tc_step.specs.declared.{place.Place.Place, step.Step.Step}
-use Rattle.tc_step.specs.Prelude.{place_map, group_map, target_map, ScriptView}
+use Rattle.std.specs.{Prelude.{ℕ, Result, Ok, Err, List, [], ◌∷◌, length, map, ◌≡◌, false, ◌≤◌, Some, IfSome, slice_get, All}, Option.{option_map_or, option_map}}
+use Rattle.tc_step.specs.{declared.{place.Place.Place, step.Step.Step}, Prelude.{place_map, group_map, target_map, ScriptView}}
 use Rattle.tc_entry.specs.declared.limits.TheConstants.{BEHAVIOURS}
-use Rattle.tc_reader.specs.{FirstPass.parsed, Line.◌>>=◌, Names.Word, Names.all_of, Names.has_twice, Names.index_of, Scope.Head, Scope.heads, Scope.with_bound, SecondPass.misnamed, Text.lines, declared.fault.ReadFault.ReadFault, declared.fault.ScriptFault.ScriptFault, declared.line.Call.Call, declared.line.Line.Line}
+use Rattle.tc_reader.specs.{FirstPass.parsed, Line.◌>>=◌, Names.{Word, all_of, has_twice, index_of}, Scope.{Head, heads, with_bound}, SecondPass.misnamed, Text.lines, declared.{fault.{ReadFault.ReadFault, ScriptFault.ScriptFault}, line.{Call.Call, Line.Line}}}
 
 -- ---- steps
 
@@ -53,9 +51,7 @@ CampaignView = List (Word × List (Word × ScriptView))
 
 -- the lines are judged by the kinds from BadByte to Cut; only if there is no such fault, by the others
 unfoldable pub campaign : List ℕ → Result CampaignView ScriptFault
-campaign text = do
-  ls ← parsed [] (lines text)
-  option_map_or (λ fault. Err fault) (misnamed [] ls) (Ok (cases ls))
+campaign text = parsed [] (lines text) >>= λ ls. option_map_or (λ fault. Err fault) (misnamed [] ls) (Ok (cases ls))
 
 -- what a function returned is what the text gives, unless memory ran out
 abbrev pub Reads : {A B : Type 0} → (A → B) → Result A ReadFault → Result B ScriptFault → Type 0

@@ -1,9 +1,8 @@
 -- What is open at a line, and which lines are out of place. `past` lists the lines before, the newest first.
-use Rattle.std.specs.Prelude.{ℕ, ◌+◌, ◌||◌, not, nat_le, nat_lt, Bool, true, false, if◌then◌else◌, Option, Some, None, is_some, Result, Ok, Err, List, [], ◌∷◌, length, filter, reverse}
-use Rattle.std.specs.{Option.unwrap_or, Result.result_map_both}
+use Rattle.std.specs.{Prelude.{ℕ, ◌+◌, ◌||◌, not, nat_le, nat_lt, Bool, true, false, if◌then◌else◌, Option, Some, None, is_some, Result, Ok, Err, List, [], ◌∷◌, length, filter, reverse}, Option.unwrap_or, Result.result_map_both}
 use Rattle.tc_entry.specs.declared.limits.TheConstants.{ARGUMENTS, BEHAVIOURS}
 use Rattle.tc_step.specs.declared.limits.TheConstants.{STEPS}
-use Rattle.tc_reader.specs.{Line.line_of, Line.◌>>=◌, declared.fault.ScriptFault.ScriptFault, declared.kind.ScriptKind.ScriptKind, declared.line.Call.Call, declared.line.Line.Line, declared.open.Open.Open}
+use Rattle.tc_reader.specs.{Line.{line_of, ◌>>=◌}, declared.{fault.ScriptFault.ScriptFault, kind.ScriptKind.ScriptKind, line.{Call.Call, Line.Line}, counts.Open.Open}}
 
 -- it begins a test case
 abbrev pub is_case : Line → Bool
@@ -85,6 +84,4 @@ at_next past kind = record { line = length past + 1; kind = kind }
 -- fault, BadByte to TooMany, with its number.
 abbrev pub parsed : List Line → List (List ℕ) → Result (List Line) ScriptFault
 parsed past [] = if ends_well (opened past) (cases_in past) then Ok (reverse past) else Err (at_next past ScriptKind.Cut)
-parsed past (bytes ∷ more) = do
-  l ← result_map_both (λ l. l) (at_next past) (line_of bytes >>= placed past)
-  parsed (l ∷ past) more
+parsed past (bytes ∷ more) = result_map_both (λ l. l) (at_next past) (line_of bytes >>= placed past) >>= λ l. parsed (l ∷ past) more

@@ -1,11 +1,9 @@
 -- What the walk over the lines of a script has found so far, and what one more line makes of it; and what else the
 -- functions inside say.
-use Rattle.std.specs.Prelude.{◌+◌, ◌≡◌, ◌||◌, nat_le, nat_lt, Bool, if◌then◌else◌, Result, Ok, Err, List, [], ◌∷◌, ◌++◌, length, ℕ, ◌==◌, ◌&&◌, not, is_some, Option, Some, None, map, ◌≤◌, ◌<◌, true, false, All, zero, suc, codes}
-use Rattle.std.specs.{List.list_any, Option.option_map, Option.option_map_or, Option.option_or, Result.result_map_both}
+use Rattle.std.specs.{Prelude.{◌+◌, ◌≡◌, ◌||◌, nat_le, nat_lt, Bool, if◌then◌else◌, Result, Ok, Err, List, [], ◌∷◌, ◌++◌, length, ℕ, ◌==◌, ◌&&◌, not, is_some, Option, Some, None, map, ◌≤◌, ◌<◌, false, All, zero, suc, codes}, List.list_any, Option.{option_map, option_map_or, option_or}, Result.result_map_both}
 use Rattle.tc_entry.specs.declared.limits.TheConstants.{ARGUMENTS, BEHAVIOURS}
-use Rattle.tc_step.specs.declared.{limits.TheConstants.STEPS, place.Place.Place, place.TargetPlace.TargetPlace, step.Status.Status, step.Step.Step}
-use Rattle.tc_step.specs.Prelude.{of_group, of_target, IsScript, ScriptView}
-use Rattle.tc_reader.specs.{Campaign.CampaignView, Campaign.IsCase, Campaign.step_of, Campaign.steps, FirstPass.argument_count, FirstPass.at_next, FirstPass.behaviours_in, FirstPass.cases_in, FirstPass.ends_well, FirstPass.open_after, FirstPass.opened, FirstPass.placed, FirstPass.steps_in, Line.line_of, Line.word_name, Line.◌>>=◌, Names.Word, Names.add, Names.all_of, Names.among, Names.has_twice, Names.index_of, Scope.Head, Scope.ScopeView, Scope.heads, Scope.parameters_of, Scope.with_bound, SecondPass.is_unbound, SecondPass.name_fault, Words.is_text, declared.counts.Counts.Counts, declared.fault.ReadFault.ReadFault, declared.fault.ScriptFault.ScriptFault, declared.kind.ScriptKind.ScriptKind, declared.limits.TheConstants.TEST_CASES, declared.line.Call.Call, declared.line.Keyword.Keyword, declared.line.Line.Line, declared.open.Open.Open, declared.starts.Start.Start, declared.text.Part.Part}
+use Rattle.tc_step.specs.{declared.{limits.TheConstants.STEPS, place.{Place.Place, TargetPlace.TargetPlace}, step.{Status.Status, Step.Step}}, Prelude.{of_group, of_target, IsScript, ScriptView}}
+use Rattle.tc_reader.specs.{Campaign.{CampaignView, IsCase, step_of, steps}, FirstPass.{argument_count, at_next, behaviours_in, cases_in, ends_well, open_after, opened, placed, steps_in}, Line.{line_of, word_name, ◌>>=◌}, Names.{Word, add, all_of, among, has_twice, index_of}, Scope.{Head, ScopeView, heads, parameters_of, with_bound}, SecondPass.{is_unbound, name_fault}, declared.{counts.{Counts.Counts, Open.Open}, fault.{ReadFault.ReadFault, ScriptFault.ScriptFault}, kind.ScriptKind.ScriptKind, limits.TheConstants.TEST_CASES, line.{Call.Call, Keyword.Keyword, Line.Line}, starts.Start.Start, text.Part.Part}}
 
 -- the behaviours of a test case: their names, and the numbers of their parameters
 abbrev pub signatures : List (Word × ScriptView) → List Head
@@ -396,10 +394,6 @@ pub record IsTargetOf (ns : List Word) (word : List ℕ) (t : TargetPlace (Place
   pub target : TargetPlace (Place Word)
   pub is : (s : Status) → line_of (keyword_text (Keyword.Ask s) ++ 32 ∷ word) ≡ Ok (Line.Step (Call.Ask s target))
   pub is_made : (s : Status) → made_step ns (Call.Ask s target) ≡ Ok (Step.Ask s t)
-
--- the keyword, if the word is its spelling
-abbrev pub spelled_as : List ℕ → Keyword → Option Keyword
-spelled_as word k = if is_text word (keyword_text k) then Some k else None
 
 -- the lines begin with this part, lines that say nothing or one line, and these are left
 abbrev pub BeginsWith : Part → List (List ℕ) → List (List ℕ) → Type 0

@@ -1,8 +1,7 @@
 -- What a line says.
-use Rattle.std.specs.Prelude.{ℕ, ◌≡◌, ◌==◌, ◌&&◌, nat_le, not, Bool, true, false, if◌then◌else◌, Some, None, Result, Ok, Err, List, [], ◌∷◌, codes}
-use Rattle.std.specs.{List.list_all, Map.lookup, Option.ok_or}
+use Rattle.std.specs.{Prelude.{ℕ, ◌≡◌, ◌==◌, ◌&&◌, nat_le, not, Bool, true, false, if◌then◌else◌, Some, None, Result, Ok, Err, List, [], ◌∷◌, codes}, List.list_all, Map.lookup, Option.ok_or}
 use Rattle.tc_step.specs.declared.place.{GroupPlace.GroupPlace, Place.Place, TargetPlace.TargetPlace}
-use Rattle.tc_reader.specs.{Text.words, Words.is_text, Words.keyword, Words.name, Words.verdict, declared.kind.LineFault.LineFault, declared.kind.ScriptKind.ScriptKind, declared.line.Call.Call, declared.line.Keyword.Keyword, declared.line.Line.Line}
+use Rattle.tc_reader.specs.{Text.words, Words.{is_text, keyword, name, verdict}, declared.{kind.{LineFault.LineFault, ScriptKind.ScriptKind}, line.{Call.Call, Keyword.Keyword, Line.Line}}}
 
 infixl 10 ◌>>=◌
 -- what is made of a result, or its fault
@@ -13,10 +12,7 @@ abbrev pub ◌>>=◌ : {A B E : Type 0} → Result A E → (A → Result B E) �
 -- all of them, or the first fault
 abbrev pub each : {A B E : Type 0} → (A → Result B E) → List A → Result (List B) E
 each f [] = Ok []
-each f (x ∷ xs) = do
-  y ← f x
-  ys ← each f xs
-  Ok (y ∷ ys)
+each f (x ∷ xs) = f x >>= λ y. each f xs >>= λ ys. Ok (y ∷ ys)
 
 -- the word as a name
 unfoldable pub word_name : List ℕ → Result (List ℕ) ScriptKind
@@ -51,26 +47,19 @@ create r alive _ = Err ScriptKind.BadLine
 -- the line that a keyword and the words after it make
 unfoldable pub form : Keyword → List (List ℕ) → Result Line ScriptKind
 form Keyword.TestCase (n ∷ []) = word_name n >>= λ m. Ok (Line.TestCase m)
-form Keyword.Behaviour (n ∷ ps) = do
-  m ← word_name n
-  qs ← each word_name ps
-  Ok (Line.Behaviour m qs)
+form Keyword.Behaviour (n ∷ ps) = word_name n >>= λ m. each word_name ps >>= λ qs. Ok (Line.Behaviour m qs)
 form Keyword.End [] = Ok Line.End
 form Keyword.Create (r ∷ []) = create r false []
 form Keyword.Create (r ∷ w ∷ ws) = if is_text w (codes "alive") then create r true ws else create r false (w ∷ ws)
-form Keyword.Start (x ∷ b ∷ as_given) = do
-  on ← reference x
-  m ← word_name b
-  args ← each reference as_given
-  Ok (Line.Step (Call.Start on m args))
+form Keyword.Start (x ∷ b ∷ as_given) =
+    reference x >>= λ on. word_name b >>= λ m. each reference as_given >>= λ args. Ok (Line.Step (Call.Start on m args))
 form Keyword.Stop (g ∷ []) = group_named g >>= λ h. Ok (Line.Step (Call.Stop h))
 form Keyword.Kill (g ∷ []) = group_named g >>= λ h. Ok (Line.Step (Call.Kill h))
 form Keyword.StopCase [] = Ok (Line.Step Call.StopCase)
 form (Keyword.Ask s) (t ∷ []) = target_named t >>= λ u. Ok (Line.Step (Call.Ask s u))
-form Keyword.Wait (w ∷ t ∷ []) = do
-  killed ← ok_or (lookup (is_text w) ((codes "done", false) ∷ (codes "killed", true) ∷ [])) ScriptKind.BadLine
-  u ← target_named t
-  Ok (Line.Step (Call.Wait killed u))
+form Keyword.Wait (w ∷ t ∷ []) =
+    ok_or (lookup (is_text w) ((codes "done", false) ∷ (codes "killed", true) ∷ [])) ScriptKind.BadLine
+    >>= λ killed. target_named t >>= λ u. Ok (Line.Step (Call.Wait killed u))
 form Keyword.SetVerdict (v ∷ []) = ok_or (verdict v) ScriptKind.BadLine >>= λ u. Ok (Line.Step (Call.SetVerdict u))
 form Keyword.GetVerdict [] = Ok (Line.Step Call.GetVerdict)
 form _ _ = Err ScriptKind.BadLine

@@ -1,6 +1,5 @@
 -- Lists of distinct names.
-use Rattle.std.specs.Prelude.{ℕ, Bool, ◌||◌, false, if◌then◌else◌, List, [], ◌∷◌, ◌++◌}
-use Rattle.std.specs.List.{list_any, position_or_len}
+use Rattle.std.specs.{Prelude.{ℕ, Bool, ◌||◌, false, if◌then◌else◌, List, [], ◌∷◌, ◌++◌}, List.{list_any, position_or_len}}
 use Rattle.tc_reader.specs.Words.{is_text}
 
 -- a name, by its bytes

@@ -1,8 +1,7 @@
 -- The names at a line: what is used, and what is bound. `past` lists the lines before, the newest first; `rest` lists the line and those
 -- after it.
-use Rattle.std.specs.Prelude.{ℕ, Option, is_some, if◌then◌else◌, List, [], ◌∷◌, ◌++◌, length}
-use Rattle.std.specs.Map.{lookup}
-use Rattle.tc_reader.specs.{Names.Word, Names.add, Names.all_of, Words.is_text, declared.line.Call.Call, declared.line.Line.Line}
+use Rattle.std.specs.{Prelude.{ℕ, Option, is_some, if◌then◌else◌, List, [], ◌∷◌, ◌++◌, length}, Map.lookup}
+use Rattle.tc_reader.specs.{Names.{Word, add, all_of}, Words.is_text, declared.line.{Call.Call, Line.Line}}
 
 -- the names of the test cases before
 abbrev pub cases_before : List Line → List Word

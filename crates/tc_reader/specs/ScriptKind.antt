@@ -1,8 +1,7 @@
 -- The texts of faults.
-use Rattle.std.specs.Prelude.{ℕ, List, codes, ◌++◌}
-use Rattle.std.specs.Fmt.{decimal}
+use Rattle.std.specs.{Prelude.{ℕ, List, codes, ◌++◌}, Fmt.decimal}
 use Rattle.tc_verdict.specs.Prelude.{early_text, memory_text}
-use Rattle.tc_reader.specs.declared.{fault.ReadFault.ReadFault, fault.ScriptFault.ScriptFault, kind.LineFault.LineFault, kind.ScriptKind.ScriptKind}
+use Rattle.tc_reader.specs.declared.{fault.{ReadFault.ReadFault, ScriptFault.ScriptFault}, kind.{LineFault.LineFault, ScriptKind.ScriptKind}}
 
 -- the words that name a fault
 abbrev pub script_kind_text : ScriptKind → List ℕ

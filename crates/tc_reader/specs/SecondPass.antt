@@ -1,9 +1,7 @@
 -- The faults of names: kinds Twice, NoReference, UnknownBehaviour, MainParameters and Arguments.
-use Rattle.std.specs.Prelude.{◌==◌, ◌&&◌, ◌||◌, not, Bool, false, if◌then◌else◌, Option, Some, None, List, [], ◌∷◌, length}
-use Rattle.std.specs.{List.list_any, Option.option_map, Option.option_map_or, Option.option_or}
-use Rattle.tc_step.specs.declared.place.Place.{Place}
-use Rattle.tc_step.specs.Prelude.{of_group, of_target}
-use Rattle.tc_reader.specs.{FirstPass.at_next, Names.Word, Names.among, Names.has_twice, Scope.ScopeView, Scope.parameters_of, Scope.scope_of, declared.fault.ScriptFault.ScriptFault, declared.kind.ScriptKind.ScriptKind, declared.line.Call.Call, declared.line.Line.Line}
+use Rattle.std.specs.{Prelude.{◌==◌, ◌&&◌, ◌||◌, not, Bool, false, if◌then◌else◌, Option, Some, None, List, [], ◌∷◌, length}, List.list_any, Option.{option_map, option_map_or, option_or}}
+use Rattle.tc_step.specs.{declared.place.Place.Place, Prelude.{of_group, of_target}}
+use Rattle.tc_reader.specs.{FirstPass.at_next, Names.{Word, among, has_twice}, Scope.{ScopeView, parameters_of, scope_of}, declared.{fault.ScriptFault.ScriptFault, kind.ScriptKind.ScriptKind, line.{Call.Call, Line.Line}}}
 
 -- a component whose name is not bound
 abbrev pub is_unbound : List Word → Place Word → Bool

@@ -1,6 +1,5 @@
 -- The lines of a text and the words of a line.
-use Rattle.std.specs.Prelude.{ℕ, ◌==◌, ◌-◌, not, if◌then◌else◌, List, [], length, filter, take, slice_index}
-use Rattle.std.specs.List.{slice_split}
+use Rattle.std.specs.{Prelude.{ℕ, ◌==◌, ◌-◌, not, if◌then◌else◌, List, [], length, filter, take, slice_index}, List.slice_split}
 
 -- a text without the LF at its end, if it has one
 unfoldable pub without_end : List ℕ → List ℕ

@@ -1,9 +1,7 @@
 -- Single words of a script.
-use Rattle.std.specs.Prelude.{ℕ, ◌&&◌, ◌||◌, not, nat_eq, nat_le, Bool, false, if◌then◌else◌, Option, Some, None, List, [], ◌∷◌, length, codes}
-use Rattle.std.specs.{Char.is_ascii_alphabetic, Cmp.Lexicographic.pointwise, List.find, List.list_all, Map.lookup}
+use Rattle.std.specs.{Prelude.{ℕ, ◌&&◌, ◌||◌, not, nat_eq, nat_le, Bool, false, if◌then◌else◌, Option, Some, None, List, [], ◌∷◌, length, codes}, Char.is_ascii_alphabetic, Cmp.Lexicographic.pointwise, List.{find, list_all}, Map.lookup}
 use Rattle.tc_step.specs.declared.step.Status.{Status}
-use Rattle.tc_entry.specs.declared.limits.TheConstants.{NAME_BYTES}
-use Rattle.tc_entry.specs.Prelude.{is_name_byte, UserVerdict, given, name_of}
+use Rattle.tc_entry.specs.{declared.limits.TheConstants.NAME_BYTES, Prelude.{is_name_byte, UserVerdict, given, name_of}}
 use Rattle.tc_reader.specs.declared.line.Keyword.{Keyword}
 
 -- two texts are one

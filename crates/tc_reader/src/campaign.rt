@@ -1,5 +1,6 @@
 //! The campaign that a script spells: its test cases, and their behaviours.
 use crate::Name;
+use crate::made::Draft;
 use std::collections::VecDeque;
 use std::marker::Model;
 use tc_step::Script;
@@ -8,16 +9,18 @@ use tc_step::Script;
 /// the main component's.
 #[derive(Drop)]
 pub struct CaseScript {
-    pub(crate) scripts: VecDeque<(Name, Script)>,
+    pub(crate) drafts: VecDeque<Draft>,
 }
 
 impl Model for CaseScript {
-    ghost use Rattle.std.specs.Prelude.{List, ℕ};
-    ghost use Rattle.tc_step.specs.Prelude.{ScriptView};
+    ghost use Rattle.std.specs.Prelude.{All, List, ℕ};
+    ghost use Rattle.tc_step.specs.Prelude.{IsScript, ScriptView};
 
     ghost Value = { List (List ℕ × ScriptView) };
 
-    ghost view = { λ c. c.scripts.items };
+    ghost view = { λ c. c.drafts.items };
+
+    ghost invariant = { λ c. All (λ b. IsScript b.1.parameters b.1.steps) c.drafts.items };
 }
 
 impl CaseScript {
@@ -27,7 +30,7 @@ impl CaseScript {
     pub fn take_first(&mut self) -> Option<(Name, Script)>
         ensures { MatchOption result ((self.old ≡ []) × (self.new ≡ [])) (λ first. self.old ≡ first ∷ self.new) }
     {
-        self.scripts.pop_front()
+        Some(self.drafts.pop_front()?.into_script())
     }
 }
 

@@ -4,10 +4,22 @@ ghost use Rattle.tc_reader.specs.FirstPass.{argument_count, open_after as spec_o
 ghost use Rattle.tc_reader.specs.declared.line.{Call.Call, Line.Line};
 
 use crate::limits::TEST_CASES;
-use crate::open::Open;
 use crate::{Call, Line, ScriptKind};
 use tc_entry::{ARGUMENTS, BEHAVIOURS};
 use tc_step::STEPS;
+
+/// What is open before a line.
+#[derive(Clone, Copy, Debug, PartialEq, Eq)]
+pub(crate) enum Open {
+    /// No test case.
+    Nothing,
+    /// A test case without a behaviour so far.
+    NewCase,
+    /// A test case, after the end of a behaviour.
+    Case,
+    /// A behaviour of a test case.
+    Behaviour,
+}
 
 /// What the first pass remembers of the lines before.
 #[derive(Clone, Copy, Debug, PartialEq, Eq)]

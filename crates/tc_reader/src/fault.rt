@@ -3,7 +3,7 @@ ghost use Rattle.std.specs.Prelude.{◌≡◌, Some};
 ghost use Rattle.tc_reader.specs.{ScriptKind.script_fault_text, ScriptKind.read_fault_text, declared.fault.ReadFault.ReadFault};
 
 use crate::{LineFault, ScriptKind};
-use std::alloc::{AllocError, AllocFailed};
+use std::alloc::AllocError;
 use std::fmt;
 use thiserror::Error;
 
@@ -49,14 +49,6 @@ impl From<AllocError> for ReadFault {
     ghost from_gives = { λ _ f. f ≡ ReadFault.NoMemory };
 
     fn from(_error: AllocError) -> ReadFault {
-        ReadFault::NoMemory
-    }
-}
-
-impl<T: Drop> From<AllocFailed<T>> for ReadFault {
-    ghost from_gives = { λ _ f. f ≡ ReadFault.NoMemory };
-
-    fn from(_error: AllocFailed<T>) -> ReadFault {
         ReadFault::NoMemory
     }
 }

@@ -1,15 +1,14 @@
 //! A line is read as its form, or by its first fault.
-ghost use Rattle.std.specs.Prelude.{◌≡◌, map};
+ghost use Rattle.std.specs.Prelude.{◌≡◌, ◌∷◌, [], map};
 ghost use Rattle.tc_reader.specs.{Inside.create_named, Line.Gives, Line.are_printable, Line.create, Line.each, Line.form, Line.group_named, Line.is_comment as comment, Line.line_of, Line.reference, Line.target_named, Line.word_name};
 
 use crate::kind::{LineFault, ScriptKind};
 use crate::line::{Call, Keyword, Line};
-use crate::spelling::{is_word, read_keyword, read_verdict};
+use crate::spelling::{is_word, read_keyword, read_name, read_verdict};
 use crate::text::read_words;
-use crate::word::read_name;
 use std::alloc::Global;
 use tc_entry::{Name, Sequence};
-use tc_step::{GroupPlace, Place, Status, TargetPlace};
+use tc_step::{GroupPlace, Place, TargetPlace};
 
 // What reads a name is not inlined (`inline(never)`): so the reader of the lines without one, as `setverdict pass`, has
 // no room for names to clear and move.
@@ -18,10 +17,7 @@ use tc_step::{GroupPlace, Place, Status, TargetPlace};
 fn read_named(word: &[u8]) -> Result<Name, ScriptKind>
     ensures { result ≡ word_name word.now }
 {
-    match read_name(word) {
-        Some(name) => Ok(name),
-        None => Err(ScriptKind::BadName),
-    }
+    read_name(word).ok_or(ScriptKind::BadName)
 }
 
 /// The component that the word names.
@@ -36,8 +32,7 @@ pub fn read_reference(word: &[u8]) -> Result<Place<Name>, ScriptKind>
     if is_word(word, b"self") {
         return Ok(Place::Own);
     }
-    let name = read_named(word)?;
-    Ok(Place::Bound(name))
+    Ok(Place::Bound(read_named(word)?))
 }
 
 #[tactic(auto, unfolding(crate::specs::Line::group_named))]
@@ -47,8 +42,7 @@ fn read_group(word: &[u8]) -> Result<GroupPlace<Place<Name>>, ScriptKind>
     if is_word(word, b"all") {
         return Ok(GroupPlace::All);
     }
-    let one = read_reference(word)?;
-    Ok(GroupPlace::One(one))
+    Ok(GroupPlace::One(read_reference(word)?))
 }
 
 #[tactic(auto, unfolding(crate::specs::Line::target_named))]
@@ -61,33 +55,18 @@ fn read_target(word: &[u8]) -> Result<TargetPlace<Place<Name>>, ScriptKind>
     if is_word(word, b"all") {
         return Ok(TargetPlace::All);
     }
-    let one = read_reference(word)?;
-    Ok(TargetPlace::One(one))
-}
-
-#[tactic(auto, unfolding(crate::specs::Line::form))]
-#[inline(never)]
-fn read_test_case(words: &[&[u8]]) -> Result<Line, LineFault>
-    ensures { Gives result (form Keyword.TestCase (map (λ w. w.now) words.now)) }
-{
-    match words {
-        [word] => {
-            let name = read_named(word)?;
-            Ok(Line::TestCase(name))
-        }
-        _ => Err(LineFault::Kind(ScriptKind::BadLine)),
-    }
+    Ok(TargetPlace::One(read_reference(word)?))
 }
 
 fn read_named_create(word: &[u8], alive: bool, given: &[u8]) -> Result<Line, LineFault>
     ensures { Gives result (create_named word.now alive given.now) }
 {
     let name = read_named(word)?;
-    let given_name = read_named(given)?;
+    let given_name = Some(read_named(given)?);
     Ok(Line::Step(Call::Create {
         name,
         alive,
-        given_name: Some(given_name),
+        given_name,
     }))
 }
 
@@ -96,39 +75,24 @@ fn read_create_of(word: &[u8], alive: bool, rest: &[&[u8]]) -> Result<Line, Line
     ensures { Gives result (create word.now alive (map (λ w. w.now) rest.now)) }
 {
     match rest {
-        [] => {
-            let name = read_named(word)?;
-            Ok(Line::Step(Call::Create {
-                name,
-                alive,
-                given_name: None,
-            }))
-        }
-        [says, given] => {
-            if !is_word(says, b"named") {
-                return Err(LineFault::Kind(ScriptKind::BadLine));
-            }
-            read_named_create(word, alive, given)
-        }
+        [] => Ok(Line::Step(Call::Create {
+            name: read_named(word)?,
+            alive,
+            given_name: None,
+        })),
+        [says, given] if is_word(says, b"named") => read_named_create(word, alive, given),
         _ => Err(LineFault::Kind(ScriptKind::BadLine)),
     }
 }
 
 #[tactic(auto, unfolding(crate::specs::Line::form))]
 #[inline(never)]
-fn read_create(words: &[&[u8]]) -> Result<Line, LineFault>
-    ensures { Gives result (form Keyword.Create (map (λ w. w.now) words.now)) }
+fn read_create(word: &[u8], rest: &[&[u8]]) -> Result<Line, LineFault>
+    ensures { Gives result (form Keyword.Create (word.now ∷ map (λ w. w.now) rest.now)) }
 {
-    match words {
-        [word] => read_create_of(word, false, &[]),
-        [word, says, rest @ ..] => {
-            if is_word(says, b"alive") {
-                read_create_of(word, true, rest)
-            } else {
-                read_create_of(word, false, &words[1..])
-            }
-        }
-        [] => Err(LineFault::Kind(ScriptKind::BadLine)),
+    match rest {
+        [says, rest @ ..] if is_word(says, b"alive") => read_create_of(word, true, rest),
+        _ => read_create_of(word, false, rest),
     }
 }
 
@@ -137,8 +101,7 @@ fn read_names(alloc: Global, words: &[&[u8]]) -> Result<Sequence<Name>, LineFaul
 {
     let mut names = Vec::new(alloc);
     for word in words {
-        let name = read_named(word)?;
-        names.push(name)?;
+        names.push(read_named(word)?)?;
     }
     Ok(Sequence::new(names))
 }
@@ -148,170 +111,70 @@ fn read_references(alloc: Global, words: &[&[u8]]) -> Result<Sequence<Place<Name
 {
     let mut references = Vec::new(alloc);
     for word in words {
-        let one = read_reference(word)?;
-        references.push(one)?;
+        references.push(read_reference(word)?)?;
     }
     Ok(Sequence::new(references))
 }
 
 #[tactic(auto, unfolding(crate::specs::Line::form))]
 #[inline(never)]
-fn read_behaviour(alloc: Global, words: &[&[u8]]) -> Result<Line, LineFault>
-    ensures { Gives result (form Keyword.Behaviour (map (λ w. w.now) words.now)) }
+fn read_behaviour(alloc: Global, word: &[u8], rest: &[&[u8]]) -> Result<Line, LineFault>
+    ensures { Gives result (form Keyword.Behaviour (word.now ∷ map (λ w. w.now) rest.now)) }
 {
-    match words {
-        [word, parameters @ ..] => {
-            let name = read_named(word)?;
-            let parameters = read_names(alloc, parameters)?;
-            Ok(Line::Behaviour(name, parameters))
-        }
-        [] => Err(LineFault::Kind(ScriptKind::BadLine)),
-    }
+    let name = read_named(word)?;
+    Ok(Line::Behaviour(name, read_names(alloc, rest)?))
 }
 
 #[tactic(auto, unfolding(crate::specs::Line::form))]
 #[inline(never)]
-fn read_start(alloc: Global, words: &[&[u8]]) -> Result<Line, LineFault>
-    ensures { Gives result (form Keyword.Start (map (λ w. w.now) words.now)) }
+fn read_start(alloc: Global, on: &[u8], behaviour: &[u8], args: &[&[u8]]) -> Result<Line, LineFault>
+    ensures { Gives result (form Keyword.Start (on.now ∷ behaviour.now ∷ map (λ w. w.now) args.now)) }
 {
-    match words {
-        [on, behaviour, args @ ..] => {
-            let on = read_reference(on)?;
-            let behaviour = read_named(behaviour)?;
-            let args = read_references(alloc, args)?;
-            Ok(Line::Step(Call::Start {
-                on,
-                behaviour,
-                args,
-            }))
-        }
-        _ => Err(LineFault::Kind(ScriptKind::BadLine)),
-    }
+    let on = read_reference(on)?;
+    let behaviour = read_named(behaviour)?;
+    let args = read_references(alloc, args)?;
+    Ok(Line::Step(Call::Start {
+        on,
+        behaviour,
+        args,
+    }))
 }
 
 #[tactic(auto, unfolding(crate::specs::Line::form))]
 #[inline(never)]
-fn read_wait(words: &[&[u8]]) -> Result<Line, LineFault>
-    ensures { Gives result (form Keyword.Wait (map (λ w. w.now) words.now)) }
+fn read_wait(status: &[u8], target: &[u8]) -> Result<Line, LineFault>
+    ensures { Gives result (form Keyword.Wait (status.now ∷ target.now ∷ [])) }
 {
-    match words {
-        [status, target] => {
-            let killed = if is_word(status, b"done") {
-                false
-            } else if is_word(status, b"killed") {
-                true
-            } else {
-                return Err(LineFault::Kind(ScriptKind::BadLine));
-            };
-            let target = read_target(target)?;
-            Ok(Line::Step(Call::Wait { killed, target }))
-        }
-        _ => Err(LineFault::Kind(ScriptKind::BadLine)),
+    let killed = !is_word(status, b"done");
+    if killed && !is_word(status, b"killed") {
+        return Err(LineFault::Kind(ScriptKind::BadLine));
     }
+    let target = read_target(target)?;
+    Ok(Line::Step(Call::Wait { killed, target }))
 }
 
+// What a line says, by its keyword and the words after it.
 #[tactic(auto, unfolding(crate::specs::Line::form))]
-#[inline(never)]
-fn read_stop(words: &[&[u8]]) -> Result<Line, LineFault>
-    ensures { Gives result (form Keyword.Stop (map (λ w. w.now) words.now)) }
-{
-    match words {
-        [word] => {
-            let group = read_group(word)?;
-            Ok(Line::Step(Call::Stop(group)))
-        }
-        _ => Err(LineFault::Kind(ScriptKind::BadLine)),
-    }
-}
-
-#[tactic(auto, unfolding(crate::specs::Line::form))]
-#[inline(never)]
-fn read_kill(words: &[&[u8]]) -> Result<Line, LineFault>
-    ensures { Gives result (form Keyword.Kill (map (λ w. w.now) words.now)) }
-{
-    match words {
-        [word] => {
-            let group = read_group(word)?;
-            Ok(Line::Step(Call::Kill(group)))
-        }
-        _ => Err(LineFault::Kind(ScriptKind::BadLine)),
-    }
-}
-
-#[tactic(auto, unfolding(crate::specs::Line::form))]
-fn read_stop_case(words: &[&[u8]]) -> Result<Line, LineFault>
-    ensures { Gives result (form Keyword.StopCase (map (λ w. w.now) words.now)) }
-{
-    match words {
-        [] => Ok(Line::Step(Call::StopCase)),
-        _ => Err(LineFault::Kind(ScriptKind::BadLine)),
-    }
-}
-
-#[tactic(auto, unfolding(crate::specs::Line::form))]
-#[inline(never)]
-fn read_ask(status: Status, words: &[&[u8]]) -> Result<Line, LineFault>
-    ensures { Gives result (form (Keyword.Ask status) (map (λ w. w.now) words.now)) }
-{
-    match words {
-        [word] => {
-            let target = read_target(word)?;
-            Ok(Line::Step(Call::Ask(status, target)))
-        }
-        _ => Err(LineFault::Kind(ScriptKind::BadLine)),
-    }
-}
-
-#[tactic(auto, unfolding(crate::specs::Line::form))]
-fn read_set_verdict(words: &[&[u8]]) -> Result<Line, LineFault>
-    ensures { Gives result (form Keyword.SetVerdict (map (λ w. w.now) words.now)) }
-{
-    match words {
-        [word] => match read_verdict(word) {
-            Some(verdict) => Ok(Line::Step(Call::SetVerdict(verdict))),
-            None => Err(LineFault::Kind(ScriptKind::BadLine)),
-        },
-        _ => Err(LineFault::Kind(ScriptKind::BadLine)),
-    }
-}
-
-#[tactic(auto, unfolding(crate::specs::Line::form))]
-fn read_end(words: &[&[u8]]) -> Result<Line, LineFault>
-    ensures { Gives result (form Keyword.End (map (λ w. w.now) words.now)) }
-{
-    if words.is_empty() {
-        Ok(Line::End)
-    } else {
-        Err(LineFault::Kind(ScriptKind::BadLine))
-    }
-}
-
-#[tactic(auto, unfolding(crate::specs::Line::form))]
-fn read_get_verdict(words: &[&[u8]]) -> Result<Line, LineFault>
-    ensures { Gives result (form Keyword.GetVerdict (map (λ w. w.now) words.now)) }
-{
-    match words {
-        [] => Ok(Line::Step(Call::GetVerdict)),
-        _ => Err(LineFault::Kind(ScriptKind::BadLine)),
-    }
-}
-
 fn read_form(alloc: Global, keyword: Keyword, words: &[&[u8]]) -> Result<Line, LineFault>
     ensures { Gives result (form keyword (map (λ w. w.now) words.now)) }
 {
-    match keyword {
-        Keyword::TestCase => read_test_case(words),
-        Keyword::Behaviour => read_behaviour(alloc, words),
-        Keyword::End => read_end(words),
-        Keyword::Create => read_create(words),
-        Keyword::Start => read_start(alloc, words),
-        Keyword::Stop => read_stop(words),
-        Keyword::Kill => read_kill(words),
-        Keyword::StopCase => read_stop_case(words),
-        Keyword::Ask(status) => read_ask(status, words),
-        Keyword::Wait => read_wait(words),
-        Keyword::SetVerdict => read_set_verdict(words),
-        Keyword::GetVerdict => read_get_verdict(words),
+    match (keyword, words) {
+        (Keyword::TestCase, [name]) => Ok(Line::TestCase(read_named(name)?)),
+        (Keyword::Behaviour, [name, rest @ ..]) => read_behaviour(alloc, name, rest),
+        (Keyword::End, []) => Ok(Line::End),
+        (Keyword::Create, [name, rest @ ..]) => read_create(name, rest),
+        (Keyword::Start, [on, name, rest @ ..]) => read_start(alloc, on, name, rest),
+        (Keyword::Stop, [group]) => Ok(Line::Step(Call::Stop(read_group(group)?))),
+        (Keyword::Kill, [group]) => Ok(Line::Step(Call::Kill(read_group(group)?))),
+        (Keyword::StopCase, []) => Ok(Line::Step(Call::StopCase)),
+        (Keyword::Ask(status), [target]) => Ok(Line::Step(Call::Ask(status, read_target(target)?))),
+        (Keyword::Wait, [status, target]) => read_wait(status, target),
+        (Keyword::SetVerdict, [verdict]) => match read_verdict(verdict) {
+            Some(verdict) => Ok(Line::Step(Call::SetVerdict(verdict))),
+            None => Err(LineFault::Kind(ScriptKind::BadLine)),
+        },
+        (Keyword::GetVerdict, []) => Ok(Line::Step(Call::GetVerdict)),
+        _ => Err(LineFault::Kind(ScriptKind::BadLine)),
     }
 }
 
@@ -326,10 +189,7 @@ fn is_printable(line: &[u8]) -> bool
 pub fn is_comment(word: &[u8]) -> bool
     ensures { result ≡ comment word.now }
 {
-    match word {
-        [b'#', ..] => true,
-        _ => false,
-    }
+    matches!(word, [b'#', ..])
 }
 
 /// What a line says. The list holds its words meanwhile: given to the next line, it takes no memory again.

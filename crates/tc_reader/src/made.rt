@@ -1,5 +1,5 @@
 //! What is made of the lines of a script, one by one: its test cases.
-ghost use Rattle.std.specs.Prelude.{◌≡◌, ◌≤◌, [], ◌∷◌, ◌++◌, Some, None, All, length, IfOk, OnOk};
+ghost use Rattle.std.specs.Prelude.{◌≡◌, ◌≤◌, [], Some, None, All, length, OnOk};
 ghost use Rattle.std.specs.Option.{option_map};
 ghost use Rattle.tc_entry.specs.declared.limits.TheConstants.{BEHAVIOURS};
 ghost use Rattle.tc_reader.specs.Inside.{MakeScripts, MakesScript, all_filled, behaviour_ended, case_ended, case_left, filled, finished, left_of, started_of, with_last, with_step};
@@ -11,10 +11,11 @@ use crate::{Name, Script, Step};
 use std::alloc::{AllocError, Global};
 use std::collections::VecDeque;
 use std::marker::Model;
+use std::mem;
 
 /// A behaviour, with the steps that were read so far.
 #[derive(Drop)]
-struct Draft {
+pub(crate) struct Draft {
     name: Name,
     parameters: usize,
     steps: Vec<Step>,
@@ -34,7 +35,7 @@ impl Model for Draft {
 pub(crate) struct Made {
     done: VecDeque<(Name, CaseScript)>,
     case: Option<Name>,
-    drafts: VecDeque<Draft>,
+    drafts: Vec<Draft>,
     current: Option<Draft>,
 }
 
@@ -54,70 +55,52 @@ impl Draft {
         Ok(())
     }
 
-    /// Its script, with the runs of its starts, which are the first of these; and the others.
-    fn finish<'s>(self, heads: &Heads, starts: &'s [Start]) -> (Name, Script, &'s [Start])
+    // Sets the runs of its starts, which are the first of these; and the others are left.
+    fn fill<'s>(&mut self, heads: &Heads, starts: &'s [Start]) -> &'s [Start]
         requires few { length heads.now ≤ BEHAVIOURS }
-        requires script { MakesScript (
-          self.0,
-          record {
-            parameters = self.1.parameters;
-            steps = filled heads.now self.1.steps (started_of starts.now);
-          },
-        ) }
-        ensures name { result.0 ≡ self.0 }
-        ensures script { result.1 ≡ record { parameters = self.1.parameters; steps = filled heads.now self.1.steps (started_of starts.now) } }
-        ensures left { started_of result.2.now ≡ left_of self.1.steps (started_of starts.now) }
+        ensures name { self.new.0 ≡ self.old.0 }
+        ensures script { self.new.1
+            ≡ record { parameters = self.old.1.parameters; steps = filled heads.now self.old.1.steps (started_of starts.now) } }
+        ensures left { started_of result.now ≡ left_of self.old.1.steps (started_of starts.now) }
+    {
+        fill(heads, &mut self.steps, starts)
+    }
+
+    /// Its name, and its script.
+    pub(crate) fn into_script(self) -> (Name, Script)
+        requires { MakesScript self }
+        ensures { result ≡ self }
     {
         let Draft {
             name,
             parameters,
-            mut steps,
+            steps,
         } = self;
-        let left = fill(heads, &mut steps, starts);
-        (name, Script::new(parameters, steps), left)
+        (name, Script::new(parameters, steps))
     }
 }
 
-/// Makes scripts of the behaviours, with the runs of their starts, after the others.
-fn finish_into(
-    heads: &Heads,
-    starts: &[Start],
-    drafts: &mut VecDeque<Draft>,
-    scripts: &mut VecDeque<(Name, Script)>,
-) -> Result<(), AllocError>
+// Sets the runs of the starts of these behaviours, which are these.
+fn fill_all(heads: &Heads, drafts: &mut [Draft], starts: &[Start])
     requires few { length heads.now ≤ BEHAVIOURS }
-    requires scripts { All MakesScript (all_filled heads.now drafts.old.items (started_of starts.now)) }
-    ensures made { OnOk result (scripts.new.items
-        ≡ scripts.old.items ++ all_filled heads.now drafts.old.items (started_of starts.now)) }
-    ensures left { OnOk result (drafts.new.items ≡ []) }
+    ensures { drafts.new ≡ all_filled heads.now drafts.old (started_of starts.now) }
 {
     let mut rest = starts;
-    while let Some(draft) = drafts.pop_front() {
-        let (name, script, left) = draft.finish(heads, rest);
-        scripts.push_back((name, script))?;
-        rest = left;
+    for draft in drafts.iter_mut() {
+        rest = draft.fill(heads, rest);
     }
-    Ok(())
 }
 
-fn finish_all(
-    alloc: Global,
-    heads: &Heads,
-    starts: &[Start],
-    drafts: &mut VecDeque<Draft>,
-) -> Result<VecDeque<(Name, Script)>, AllocError>
+// The test case of these behaviours, whose starts these are.
+fn case_of(heads: &Heads, drafts: Vec<Draft>, starts: &[Start]) -> CaseScript
     requires few { length heads.now ≤ BEHAVIOURS }
-    requires scripts { All MakesScript (all_filled heads.now drafts.old.items (started_of starts.now)) }
-    ensures made { IfOk result (λ s. s.items ≡ all_filled heads.now drafts.old.items (started_of starts.now)) }
-    ensures left { OnOk result (drafts.new.items ≡ []) }
+    requires scripts { All MakesScript (all_filled heads.now drafts.items (started_of starts.now)) }
+    ensures { result ≡ all_filled heads.now drafts.items (started_of starts.now) }
 {
-    let mut scripts = VecDeque::new(alloc);
-    match finish_into(heads, starts, drafts, &mut scripts) {
-        Ok(()) => Ok(scripts),
-        Err(error) => {
-            drop(scripts);
-            Err(error)
-        }
+    let mut drafts = drafts;
+    fill_all(heads, &mut drafts, starts);
+    CaseScript {
+        drafts: VecDeque::from_vec(drafts),
     }
 }
 
@@ -129,7 +112,7 @@ impl Made {
         Made {
             done: VecDeque::new(alloc),
             case: None,
-            drafts: VecDeque::new(alloc),
+            drafts: Vec::new(alloc),
             current: None,
         }
     }
@@ -149,7 +132,7 @@ impl Made {
         ensures { OnOk result (self.new ≡ behaviour_ended self.old) }
     {
         if let Some(draft) = self.current.take() {
-            self.drafts.push_back(draft)?;
+            self.drafts.push(draft)?;
         }
         Ok(())
     }
@@ -194,12 +177,13 @@ impl Made {
         ensures { OnOk result (self.new ≡ case_ended heads.now (started_of starts.now) self.old) }
     {
         self.end_behaviour()?;
+        let drafts = mem::replace(&mut self.drafts, Vec::new(alloc));
         match self.case.take() {
             Some(name) => {
-                let scripts = finish_all(alloc, heads, starts, &mut self.drafts)?;
-                self.done.push_back((name, CaseScript { scripts }))?;
+                let case = case_of(heads, drafts, starts);
+                self.done.push_back((name, case))?;
             }
-            None => self.drafts.clear(),
+            None => drop(drafts),
         }
         Ok(())
     }

@@ -1,6 +1,6 @@
 //! Distinct names, in their order.
 ghost use Rattle.std.specs.Prelude.{◌≡◌, ◌<◌, length, [], OnOk, OnErr, IfOk, IfSome, not};
-ghost use Rattle.tc_reader.specs.{Inside.place_in, Names.add, Names.among, Words.is_text};
+ghost use Rattle.tc_reader.specs.{Inside.place_in, Names.add, Names.among};
 
 use crate::Name;
 use indexmap::IndexSet;
@@ -21,20 +21,12 @@ impl Model for Names {
     ghost view = { λ n. n.set.keys };
 }
 
-/// Whether both are the same name.
-#[tactic(auto, unfolding(crate::specs::Words::is_text))]
-fn is_same(name: &Name, other: &Name) -> bool
-    ensures { result ≡ is_text name.now other.now }
-{
-    name.bytes() == other.bytes()
-}
-
 /// Whether the name is one of these.
-#[tactic(auto, unfolding(crate::specs::Names::among))]
+#[tactic(auto, unfolding(crate::specs::Words::is_text, crate::specs::Names::among))]
 pub(crate) fn is_one_of(name: &Name, names: &[Name]) -> bool
     ensures { result ≡ among name.now names.now }
 {
-    names.iter().any(|other| is_same(name, other))
+    names.iter().any(|other| name.bytes() == other.bytes())
 }
 
 impl Names {

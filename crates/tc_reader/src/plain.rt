@@ -4,8 +4,7 @@ ghost use Rattle.tc_reader.specs.{Inside.IsStepOf, Inside.IsTargetOf, Inside.key
 
 use crate::Step;
 use crate::names::Names;
-use crate::spelling::is_word;
-use crate::word::read_name;
+use crate::spelling::{is_word, read_name, spelled};
 use tc_entry::UserVerdict;
 use tc_step::{Place, Status, TargetPlace};
 
@@ -15,19 +14,13 @@ use tc_step::{Place, Status, TargetPlace};
 fn plain_verdict(line: &[u8]) -> Option<Step>
     ensures { (ns : List (List ℕ)) → IfSome result (λ step. IsStepOf ns line.now step) }
 {
-    if is_word(line, b"getverdict") {
-        Some(Step::GetVerdict)
-    } else if is_word(line, b"setverdict pass") {
-        Some(Step::SetVerdict(UserVerdict::Pass))
-    } else if is_word(line, b"setverdict fail") {
-        Some(Step::SetVerdict(UserVerdict::Fail))
-    } else if is_word(line, b"setverdict none") {
-        Some(Step::SetVerdict(UserVerdict::None))
-    } else if is_word(line, b"setverdict inconc") {
-        Some(Step::SetVerdict(UserVerdict::Inconc))
-    } else {
-        None
-    }
+    spelled!(line,
+        b"getverdict" => Step::GetVerdict,
+        b"setverdict pass" => Step::SetVerdict(UserVerdict::Pass),
+        b"setverdict fail" => Step::SetVerdict(UserVerdict::Fail),
+        b"setverdict none" => Step::SetVerdict(UserVerdict::None),
+        b"setverdict inconc" => Step::SetVerdict(UserVerdict::Inconc),
+    )
 }
 
 /// What the line asks, and the bytes after the space.
@@ -85,10 +78,7 @@ pub(crate) fn plain_step(bound: &Names, line: &[u8]) -> Option<Step>
     ensures { IfSome result (λ step. IsStepOf bound.now line.now step) }
 {
     match plain_status(line) {
-        Some((status, word)) => {
-            let target = plain_target(bound, word)?;
-            Some(Step::Ask(status, target))
-        }
+        Some((status, word)) => Some(Step::Ask(status, plain_target(bound, word)?)),
         None => plain_verdict(line),
     }
 }

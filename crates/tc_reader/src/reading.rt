@@ -3,9 +3,8 @@ ghost use Rattle.std.specs.Prelude.{◌≡◌, ◌≤◌, ◌+◌, ◌^◌, [], 
 ghost use Rattle.tc_reader.specs.{Campaign.IsCase, Campaign.Reads, Campaign.campaign, Inside.IsCampaign, Inside.MayTake, Inside.Takes, Inside.begins, Inside.counts_of, Line.line_of, Names.has_twice};
 
 use crate::campaign::Campaign;
-use crate::counts::Counts;
+use crate::counts::{Counts, Open};
 use crate::fault::{ReadFault, ScriptFault};
-use crate::open::Open;
 use crate::walk::Walk;
 use crate::{LineFault, Lines, Part, ScriptKind, read_line};
 use std::alloc::Global;

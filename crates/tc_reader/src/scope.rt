@@ -1,5 +1,5 @@
 //! The names that a line may not use again, and those that it may refer to.
-ghost use Rattle.std.specs.Prelude.{◌≡◌, ◌≤◌, ◌<◌, ◌+◌, length, [], Some, None, if◌then◌else◌, IfOk, OnOk};
+ghost use Rattle.std.specs.Prelude.{◌≡◌, ◌≤◌, ◌<◌, ◌+◌, length, [], IfOk, OnOk};
 ghost use Rattle.tc_entry.specs.declared.limits.TheConstants.{ARGUMENTS};
 ghost use Rattle.tc_step.specs.declared.limits.TheConstants.{STEPS};
 ghost use Rattle.tc_reader.specs.{FirstPass.argument_count, Inside.binds_again, Inside.head_fault, Inside.made_step, Inside.names_after, Inside.names_at, Names.all_of, Names.has_twice, SecondPass.name_fault, declared.line.Line.Line};
@@ -25,12 +25,6 @@ impl Model for Scope {
     ghost Value = { NamesView };
 
     ghost view = { λ s. record { cases = s.cases; bound = s.bound; heads = s.heads } };
-}
-
-fn fault_where(is_fault: bool, kind: ScriptKind) -> Option<ScriptKind>
-    ensures { result ≡ (if is_fault then Some kind else None) }
-{
-    if is_fault { Some(kind) } else { None }
 }
 
 /// Whether one of the names is there twice.
@@ -89,7 +83,7 @@ impl Scope {
     pub(crate) fn fault_of_case(&self, name: &Name) -> Option<ScriptKind>
         ensures { result ≡ name_fault (names_at self.now) (Line.TestCase name.now) }
     {
-        fault_where(self.cases.contains(name), ScriptKind::Twice)
+        self.cases.contains(name).then_some(ScriptKind::Twice)
     }
 
     /// What is wrong with the names of a behaviour.
@@ -99,11 +93,8 @@ impl Scope {
         if self.heads.parameters_of(name).is_some() || any_twice(parameters) {
             return Some(ScriptKind::Twice);
         }
-        let has_parameters = !parameters.is_empty();
-        fault_where(
-            self.heads.is_empty() && has_parameters,
-            ScriptKind::MainParameters,
-        )
+        let is_wrong = self.heads.is_empty() && !parameters.is_empty();
+        is_wrong.then_some(ScriptKind::MainParameters)
     }
 
     // Whether a call creates a component by a name that is bound.
@@ -126,10 +117,7 @@ impl Scope {
         if self.binds_again(call) {
             return Err(ScriptKind::Twice);
         }
-        match step_at(&self.bound, call) {
-            Some(step) => Ok(step),
-            None => Err(ScriptKind::NoReference),
-        }
+        step_at(&self.bound, call).ok_or(ScriptKind::NoReference)
     }
 
     /// Continues after the line that begins a test case.
@@ -159,12 +147,9 @@ impl Scope {
     pub(crate) fn take_call(&mut self, call: &Call) -> Result<(), AllocError>
         ensures { OnOk result (self.new ≡ names_after self.old (Line.Step call.now)) }
     {
-        match call {
-            Call::Create { name, .. } => {
-                self.bound.add(name.copy())?;
-                Ok(())
-            }
-            _ => Ok(()),
+        if let Call::Create { name, .. } = call {
+            self.bound.add(name.copy())?;
         }
+        Ok(())
     }
 }

@@ -1,9 +1,9 @@
-//! The words of the script language: keywords and verdicts.
+//! The words of the script language: keywords, names and verdicts.
 ghost use Rattle.std.specs.Prelude.{◌≡◌, Some};
-ghost use Rattle.tc_reader.specs.{Inside.keyword_text, Words.is_text, Words.keyword, Words.verdict};
+ghost use Rattle.tc_reader.specs.{Inside.keyword_text, Words.is_text, Words.keyword, Words.name, Words.verdict};
 
 use crate::line::Keyword;
-use tc_entry::UserVerdict;
+use tc_entry::{Name, UserVerdict};
 use tc_step::Status;
 
 /// Whether the word is spelled so.
@@ -18,7 +18,7 @@ pub fn is_word(word: &[u8], spelling: &[u8]) -> bool
 impl Keyword {
     /// Its spelling.
     #[inline(always)]
-    #[tactic(auto, using(crate::proofs::Spelled::spelled))]
+    #[tactic(auto, using(crate::proofs::Naming::spelled))]
     pub fn text(self) -> &'static str
         ensures { keyword result.now ≡ Some self }
     {
@@ -49,44 +49,37 @@ impl Keyword {
     }
 }
 
+// The value of the first of these texts that is the word, if one is.
+macro_rules! spelled {
+    ($word:expr, $($text:literal => $value:expr),+ $(,)?) => {
+        $(if is_word($word, $text) { Some($value) } else)+ { None }
+    };
+}
+
+pub(crate) use spelled;
+
 /// The keyword of this spelling.
 #[tactic(auto, unfolding(crate::specs::Words::keyword))]
 pub fn read_keyword(word: &[u8]) -> Option<Keyword>
     ensures { result ≡ keyword word.now }
 {
-    if is_word(word, b"testcase") {
-        Some(Keyword::TestCase)
-    } else if is_word(word, b"behaviour") {
-        Some(Keyword::Behaviour)
-    } else if is_word(word, b"end") {
-        Some(Keyword::End)
-    } else if is_word(word, b"create") {
-        Some(Keyword::Create)
-    } else if is_word(word, b"start") {
-        Some(Keyword::Start)
-    } else if is_word(word, b"stop") {
-        Some(Keyword::Stop)
-    } else if is_word(word, b"kill") {
-        Some(Keyword::Kill)
-    } else if is_word(word, b"stopcase") {
-        Some(Keyword::StopCase)
-    } else if is_word(word, b"running") {
-        Some(Keyword::Ask(Status::Running))
-    } else if is_word(word, b"alive") {
-        Some(Keyword::Ask(Status::Alive))
-    } else if is_word(word, b"done") {
-        Some(Keyword::Ask(Status::Done))
-    } else if is_word(word, b"killed") {
-        Some(Keyword::Ask(Status::Killed))
-    } else if is_word(word, b"wait") {
-        Some(Keyword::Wait)
-    } else if is_word(word, b"setverdict") {
-        Some(Keyword::SetVerdict)
-    } else if is_word(word, b"getverdict") {
-        Some(Keyword::GetVerdict)
-    } else {
-        None
-    }
+    spelled!(word,
+        b"testcase" => Keyword::TestCase,
+        b"behaviour" => Keyword::Behaviour,
+        b"end" => Keyword::End,
+        b"create" => Keyword::Create,
+        b"start" => Keyword::Start,
+        b"stop" => Keyword::Stop,
+        b"kill" => Keyword::Kill,
+        b"stopcase" => Keyword::StopCase,
+        b"running" => Keyword::Ask(Status::Running),
+        b"alive" => Keyword::Ask(Status::Alive),
+        b"done" => Keyword::Ask(Status::Done),
+        b"killed" => Keyword::Ask(Status::Killed),
+        b"wait" => Keyword::Wait,
+        b"setverdict" => Keyword::SetVerdict,
+        b"getverdict" => Keyword::GetVerdict,
+    )
 }
 
 /// What `setverdict` may set, by its name.
@@ -94,15 +87,18 @@ pub fn read_keyword(word: &[u8]) -> Option<Keyword>
 pub(crate) fn read_verdict(word: &[u8]) -> Option<UserVerdict>
     ensures { result ≡ verdict word.now }
 {
-    if is_word(word, b"none") {
-        Some(UserVerdict::None)
-    } else if is_word(word, b"pass") {
-        Some(UserVerdict::Pass)
-    } else if is_word(word, b"inconc") {
-        Some(UserVerdict::Inconc)
-    } else if is_word(word, b"fail") {
-        Some(UserVerdict::Fail)
-    } else {
-        None
-    }
+    spelled!(word,
+        b"none" => UserVerdict::None,
+        b"pass" => UserVerdict::Pass,
+        b"inconc" => UserVerdict::Inconc,
+        b"fail" => UserVerdict::Fail,
+    )
+}
+
+/// The name that is spelled so, if there is one.
+#[tactic(auto, using(crate::proofs::Naming::naming_rules))]
+pub fn read_name(word: &[u8]) -> Option<Name>
+    ensures { result ≡ name word.now }
+{
+    Name::of_bytes(word)
 }

@@ -18,10 +18,7 @@ fn place_at(bound: &Names, place: &Place<Name>) -> Option<Place>
     match place {
         Place::Main => Some(Place::Main),
         Place::Own => Some(Place::Own),
-        Place::Bound(name) => match bound.find(name) {
-            Some(index) => Some(Place::Bound(index as u16)),
-            None => None,
-        },
+        Place::Bound(name) => Some(Place::Bound(bound.find(name)? as u16)),
     }
 }
 
@@ -33,9 +30,8 @@ fn places_at(bound: &Names, named: &[Place<Name>]) -> Option<Places>
 {
     let mut places = Places::new();
     for place in named {
-        let place = place_at(bound, place)?;
         // By the clause `few` there is room.
-        let _ = places.push(place);
+        let _ = places.push(place_at(bound, place)?);
     }
     Some(places)
 }
@@ -45,10 +41,7 @@ fn group_at(bound: &Names, group: &GroupPlace<Place<Name>>) -> Option<GroupPlace
     ensures { result ≡ if_bound bound.now (of_group group.now) (group_map (the_place bound.now) group.now) }
 {
     match group {
-        GroupPlace::One(place) => match place_at(bound, place) {
-            Some(place) => Some(GroupPlace::One(place)),
-            None => None,
-        },
+        GroupPlace::One(place) => Some(GroupPlace::One(place_at(bound, place)?)),
         GroupPlace::All => Some(GroupPlace::All),
     }
 }
@@ -58,10 +51,7 @@ fn target_at(bound: &Names, target: &TargetPlace<Place<Name>>) -> Option<TargetP
     ensures { result ≡ if_bound bound.now (of_target target.now) (target_map (the_place bound.now) target.now) }
 {
     match target {
-        TargetPlace::One(place) => match place_at(bound, place) {
-            Some(place) => Some(TargetPlace::One(place)),
-            None => None,
-        },
+        TargetPlace::One(place) => Some(TargetPlace::One(place_at(bound, place)?)),
         TargetPlace::Any => Some(TargetPlace::Any),
         TargetPlace::All => Some(TargetPlace::All),
     }
@@ -83,12 +73,11 @@ pub(crate) fn step_at(bound: &Names, call: &Call) -> Option<Step>
             alive: *alive,
             name: given_name.as_ref().map(Name::copy),
         }),
-        Call::Start { on, args, .. } => {
-            let on = place_at(bound, on)?;
-            let args = places_at(bound, args.as_slice())?;
-            let run = Run(0);
-            Some(Step::Start { on, run, args })
-        }
+        Call::Start { on, args, .. } => Some(Step::Start {
+            on: place_at(bound, on)?,
+            run: Run(0),
+            args: places_at(bound, args.as_slice())?,
+        }),
         Call::Stop(group) => Some(Step::Stop(group_at(bound, group)?)),
         Call::Kill(group) => Some(Step::Kill(group_at(bound, group)?)),
         Call::Ask(status, target) => Some(Step::Ask(*status, target_at(bound, target)?)),

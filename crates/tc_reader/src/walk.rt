@@ -77,9 +77,8 @@ impl Walk {
     fn note(&mut self, line: usize, kind: Option<ScriptKind>)
         ensures { self.new ≡ record self.old { fault = or_fault self.old.fault line kind } }
     {
-        match (self.fault, kind) {
-            (None, Some(kind)) => self.fault = Some(ScriptFault { line, kind }),
-            _ => {}
+        if let (None, Some(kind)) = (self.fault, kind) {
+            self.fault = Some(ScriptFault { line, kind });
         }
     }
 
@@ -88,26 +87,22 @@ impl Walk {
         ensures { OnOk result (self.new
             ≡ record self.old { starts = if is_some self.old.fault then self.old.starts else with_start self.old.starts line call.now }) }
     {
-        if self.fault.is_some() {
-            return Ok(());
-        }
-        match call {
+        if let (
+            None,
             Call::Start {
                 behaviour,
                 args,
                 ..
-            } => {
-                let given = args.as_slice().len();
-                let behaviour = behaviour.copy();
-                self.starts.push(Start {
-                    line,
-                    behaviour,
-                    given,
-                })?;
-                Ok(())
-            }
-            _ => Ok(()),
+            },
+        ) = (self.fault, call)
+        {
+            self.starts.push(Start {
+                line,
+                behaviour: behaviour.copy(),
+                given: args.as_slice().len(),
+            })?;
         }
+        Ok(())
     }
 
     fn take_call(&mut self, line: usize, call: &Call) -> Result<(), AllocError>

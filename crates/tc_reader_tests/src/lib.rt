@@ -1,10 +1,7 @@
-//! The tests of the libraries that read scripts, and of explanations, in a crate of their own: a check of them proves
-//! no library again.
+//! The tests of the libraries that read scripts, in a crate of their own: a check of them proves no library again.
 #![tactic(auto)]
 
 #[cfg(test)]
 mod checks;
-#[cfg(test)]
-mod explanations;
 #[cfg(test)]
 mod scripts;

@@ -22,7 +22,7 @@ testcase t;behaviour main;getverdict;end;behaviour main;end;end; => line 5: name
 testcase t;behaviour main p;getverdict;end;behaviour w a;end;end; => line 2: main behaviour takes no parameters";
 
 /// The bytes of a text, with a line feed for each `;`.
-pub(crate) fn in_lines(alloc: Global, text: &str) -> Result<Vec<u8>, Fail> {
+fn in_lines(alloc: Global, text: &str) -> Result<Vec<u8>, Fail> {
     let mut bytes = Vec::new(alloc);
     for byte in text.as_bytes() {
         bytes.push(if *byte == b';' { b'\n' } else { *byte })?;

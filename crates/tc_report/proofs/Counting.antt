@@ -1,10 +1,7 @@
--- How many test cases have each overall verdict, one test case more, and the lines of local verdicts.
-use Rattle.std.proofs.Common.{ℕ, ◌≡◌, ◌∙◌, ◌+◌, Bool, true, false, List, [], ◌∷◌, ◌++◌, length, refl, ap, arith, ◌<◌, codes, take, get_or, sym, append_assoc}
-use Rattle.std.specs.Prelude.{◌==◌, if◌then◌else◌, filter}
-use Rattle.std.proofs.lemmas.List.{Elements.filter-append, append-nil, length-append, length-take-le, take_more}
-use Rattle.std.specs.{Fmt.decimal, List.enumerate_from, List.flat_map}
+-- How many test cases have each overall verdict, one test case more, and lines that are numbered.
+use Rattle.std.{proofs.{Common.{ℕ, ◌≡◌, ◌∙◌, ◌+◌, Bool, true, false, List, [], ◌∷◌, ◌++◌, length, refl, ap, arith, ◌<◌, codes, take, get_or, sym, append_assoc}, lemmas.List.{Elements.filter-append, append-nil, length-append, length-take-le, take_more}}, specs.{Prelude.{◌==◌, if◌then◌else◌, filter}, Fmt.decimal, List.{enumerate_from, flat_map}}}
 use Rattle.tc_rules.specs.Prelude.{Verdict, level_of, name_of}
-use Rattle.tc_report.specs.{Inside.IsOneMore, Inside.cases_of, Inside.one_if, Inside.tally_with, Report.local_lines, Report.tally_of_cases, declared.results.Finished.Finished, declared.results.Tally.Tally}
+use Rattle.tc_report.specs.{Inside.{IsOneMore, cases_of, one_if, tally_with}, Report.{tally_of_cases}, declared.results.{Finished.Finished, Tally.Tally}}
 
 abbrev counted : List Finished → ℕ
 counted cases = cases_of Verdict.None cases + cases_of Verdict.Pass cases + cases_of Verdict.Inconc cases + cases_of Verdict.Fail cases + cases_of Verdict.Error cases
@@ -46,19 +43,17 @@ is_one_more before after f is = λ fs tally. is ∙ ap (λ t. tally_with t f.rep
 abbrev pub local_line : ℕ → Verdict → List ℕ
 local_line comp v = codes "local " ++ (decimal comp ++ (codes " " ++ (name_of v ++ (10 ∷ []))))
 
--- the lines from that of this component on
-abbrev lines_from : ℕ → List Verdict → List ℕ
-lines_from n vs = flat_map (λ p. local_line p.0 p.1) (enumerate_from n vs)
-
-lines_from-more : (n : ℕ) (vs : List Verdict) (v : Verdict) → lines_from n (vs ++ v ∷ []) ≡ lines_from n vs ++ local_line (n + length vs) v
-lines_from-more n [] v = let same : n + 0 ≡ n = omega arith in rw same (append-nil (local_line n v))
-lines_from-more n (x ∷ xs) v =
+-- what is made of each element and its place, from this place on, and of one more
+lines_from-more : {A : Type 0} (f : ℕ × A → List ℕ) (n : ℕ) (xs : List A) (y : A) → flat_map f (enumerate_from n (xs ++ y ∷ [])) ≡ flat_map f (enumerate_from n xs) ++ f (n + length xs, y)
+lines_from-more f n [] y = let same : n + 0 ≡ n = omega arith in rw same (append-nil (f (n, y)))
+lines_from-more f n (x ∷ xs) y =
     let same : (n + 1) + length xs ≡ n + length (x ∷ xs) = omega arith in
-    ap (λ l. local_line n x ++ l) (lines_from-more (n + 1) xs v ∙ ap (λ k. lines_from (n + 1) xs ++ local_line k v) same)
-    ∙ sym (append_assoc (local_line n x) (lines_from (n + 1) xs) (local_line (n + length (x ∷ xs)) v))
+    ap (λ l. f (n, x) ++ l) (lines_from-more f (n + 1) xs y ∙ ap (λ k. flat_map f (enumerate_from (n + 1) xs) ++ f (k, y)) same)
+    ∙ sym (append_assoc (f (n, x)) (flat_map f (enumerate_from (n + 1) xs)) (f (n + length (x ∷ xs), y)))
 
--- the lines of one component more
-pub local_lines_take : (vs : List Verdict) (i : ℕ) (d : Verdict) → i < length vs → local_lines (take (i + 1) vs) ≡ local_lines (take i vs) ++ local_line i (get_or vs i d)
-local_lines_take vs i d h =
-    let count : 0 + length (take i vs) ≡ i = omega (arith, length-take-le i vs (omega arith)) in
-    ap local_lines (take_more vs i d h) ∙ (lines_from-more 0 (take i vs) (get_or vs i d) ∙ ap (λ k. local_lines (take i vs) ++ local_line k (get_or vs i d)) count)
+pub lines_take : {A : Type 0} (f : ℕ × A → List ℕ) (xs : List A) (i : ℕ) (d : A) → i < length xs
+    → flat_map f (enumerate_from 0 (take (i + 1) xs)) ≡ flat_map f (enumerate_from 0 (take i xs)) ++ f (i, get_or xs i d)
+lines_take f xs i d h =
+    let count : 0 + length (take i xs) ≡ i = omega (arith, length-take-le i xs (omega arith)) in
+    ap (λ l. flat_map f (enumerate_from 0 l)) (take_more xs i d h)
+    ∙ (lines_from-more f 0 (take i xs) (get_or xs i d) ∙ ap (λ k. flat_map f (enumerate_from 0 (take i xs)) ++ f (k, get_or xs i d)) count)

@@ -3,4 +3,6 @@ pub mod Lemmas
 pub mod Counting
 pub mod Overalls
 pub mod Plain
+pub mod Replaying
+pub mod Waiting
 pub mod Writing

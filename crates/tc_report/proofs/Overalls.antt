@@ -1,9 +1,8 @@
 -- The worst of the verdicts that test cases count as, one test case more.
-use Rattle.std.proofs.Common.{ℕ, ◌≡◌, ◌∙◌, ◌+◌, ◌<◌, List, [], ◌∷◌, ◌++◌, length, map, take, get_or, ap, sym}
-use Rattle.std.proofs.lemmas.List.{map-append, take_more}
+use Rattle.std.proofs.{Common.{ℕ, ◌≡◌, ◌∙◌, ◌+◌, ◌<◌, List, [], ◌∷◌, ◌++◌, length, map, take, get_or, ap, sym}, lemmas.List.{map-append, take_more}}
 use Rattle.tc_rules.specs.Prelude.{Verdict, worse, worst}
 use Rattle.tc_verdict.proofs.Lemmas.Order.{worst-more}
-use Rattle.tc_report.specs.{Status.counted_as, Status.worst_of, Summary.case_summary, declared.results.Finished.Finished, declared.summary.Summary.Summary}
+use Rattle.tc_report.specs.{Status.{counted_as, worst_of}, Summary.case_summary, declared.{results.Finished.Finished, summary.Summary.Summary}}
 
 abbrev counted : Summary → Verdict
 counted s = counted_as s.ending

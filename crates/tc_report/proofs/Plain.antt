@@ -1,10 +1,8 @@
 -- The fields of a record are written as they are.
-use Rattle.std.proofs.Common.{ℕ, ◌≡◌, ◌<◌, ◌≤◌, true, false, List, [], ◌∷◌, ◌++◌, map, ap, refl, arith, length, slice_index_or}
-use Rattle.std.specs.{Fmt.IsBoundedDecimal, Fmt.decimal, List.All, List.join_with_byte, List.list_any}
-use Rattle.std.proofs.lemmas.{Bool.Decides.nat_tests, Grind.get_or_default_zero, List.Elements.All-cons, List.Elements.All-head, List.Elements.All-nil, List.Elements.All-tail, List.Folds.list_any_none, List.append-nil}
+use Rattle.std.{proofs.{Common.{ℕ, ◌≡◌, ◌<◌, ◌≤◌, true, false, List, [], ◌∷◌, ◌++◌, map, ap, refl, arith, length, slice_index_or}, lemmas.{Bool.Decides.nat_tests, Grind.get_or_default_zero, List.{Elements.{All-cons, All-head, All-nil, All-tail}, Folds.list_any_none, append-nil}}}, specs.{Fmt.{IsBoundedDecimal, decimal}, List.{All, join_with_byte, list_any}}}
 use Rattle.csv.specs.Writing.{default_writer, needs_byte, field_text, fields_text, row_text, is_blank}
 use Rattle.tc_rules.specs.Prelude.{Verdict, name_of, is_name_byte, IsName}
-use Rattle.tc_report.specs.{Csv.counts_of, Csv.end_word, Inside.csv_line, declared.results.CaseEnd.CaseEnd, declared.summary.Summary.Summary}
+use Rattle.tc_report.specs.{Csv.end_word, Inside.{counts_of, csv_line}, declared.{results.CaseEnd.CaseEnd, summary.Summary.Summary}}
 
 -- no byte of the field calls for quotes
 abbrev pub IsUnquoted : List ℕ → Type 0

@@ -1,14 +1,9 @@
 -- The pieces of a text, appended or written one after the other.
-use Rattle.std.proofs.Common.{ℕ, ◌≡◌, ◌∙◌, ◌+◌, arith, List, [], ◌∷◌, ◌++◌, Option, Some, None, length, take, refl, sym, ap, subst, append_assoc, map, Result, Ok, Err, OnErr, codes}
-use Rattle.std.proofs.lemmas.List.{Concat.flat_map-append, Folds.flat_map-map, append-nil, flat_map_more, length-append, take-append-le}
-use Rattle.std.proofs.Math.Seq.{take-append-add}
-use Rattle.std.specs.{Io.KnownBytes.Appends, Io.KnownBytes.Keeps, List.flat_map}
+use Rattle.std.{proofs.{Common.{ℕ, ◌≡◌, ◌∙◌, ◌+◌, arith, List, [], ◌∷◌, ◌++◌, Option, Some, None, length, take, refl, sym, ap, subst, append_assoc, map, Result, Ok, Err, OnErr, codes}, lemmas.List.{Concat.flat_map-append, Folds.flat_map-map, append-nil, flat_map_more, length-append, take-append-le}, Math.Seq.take-append-add}, specs.{Io.KnownBytes.{Appends, Keeps}, List.flat_map}}
 use Rattle.tc_stream.specs.Prelude.{AppendsPrefix}
-use Rattle.tc_blocks.specs.Prelude.{end_text, entry_line, with_lf, header_text, line_text}
-use Rattle.tc_blocks.specs.declared.{header.Kind.Kind, line.Line.Line}
-use Rattle.tc_rules.specs.declared.refusal.CaseError.{CaseError}
-use Rattle.tc_rules.specs.Prelude.{refusal_text}
-use Rattle.tc_report.specs.{Blocks.case_block, Blocks.finished_header, Blocks.name_lines, Csv.columns_text, Csv.row_line, Inside.form_text, Inside.text_so_far, Live.closing_text, Live.part_text, Output.LeavesPrefix, Report.abort_text, Report.tally_of_cases, Summary.case_summary, declared.fault.OutFault.OutFault, declared.live_form.LiveForm.LiveForm, declared.results.CampaignEnd.CampaignEnd, declared.results.Finished.Finished}
+use Rattle.tc_blocks.specs.{Prelude.{end_text, entry_line, with_lf, header_text, line_text}, declared.{header.Header.Header, line.Line.Line}}
+use Rattle.tc_rules.specs.{declared.refusal.CaseError.CaseError, Prelude.{Entry, Verdict, refusal_text}}
+use Rattle.tc_report.specs.{Blocks.named_block, Csv.{columns_text, row_line}, Inside.{form_text, namings, text_so_far}, Live.{closing_text, part_text}, Output.LeavesPrefix, Report.{abort_text, tally_of_cases}, Summary.case_summary, declared.{fault.OutFault.OutFault, live_form.LiveForm.LiveForm, results.{CampaignEnd.CampaignEnd, Finished.Finished}}}
 
 -- two texts, one after the other
 pub appends_both : (a b c : Option (List ℕ)) (xs ys : List ℕ) → Appends a b xs → Appends b c ys → Appends a c (xs ++ ys)
@@ -62,34 +57,41 @@ joined_two old first second a p = rw p (append_assoc old first second)
 pub joined : (old first second third a b : List ℕ) → a ≡ old ++ first → b ≡ a ++ second → b ++ third ≡ old ++ (first ++ (second ++ third))
 joined old first second third a b p q = rw (q, p) (append_assoc (old ++ first) second third ∙ append_assoc old first (second ++ third))
 
+pub joined_four : (old a b d e x y z : List ℕ) → x ≡ old ++ a → y ≡ x ++ b → z ≡ y ++ d → z ++ e ≡ old ++ (a ++ (b ++ (d ++ e)))
+joined_four old a b d e x y z p q r = rw (r, q, p) (append_assoc ((old ++ a) ++ b) d e ∙ (append_assoc (old ++ a) b (d ++ e) ∙ append_assoc old a (b ++ (d ++ e))))
+
 pub joined_five : (old a b d f e x y z w : List ℕ) → x ≡ old ++ a → y ≡ x ++ b → z ≡ y ++ d → w ≡ z ++ f
     → w ++ e ≡ old ++ (a ++ (b ++ (d ++ (f ++ e))))
 joined_five old a b d f e x y z w p q r s =
     rw (s, r, q, p) (append_assoc (((old ++ a) ++ b) ++ d) f e ∙ (append_assoc ((old ++ a) ++ b) d (f ++ e) ∙ (append_assoc (old ++ a) b (d ++ (f ++ e)) ∙ append_assoc old a (b ++ (d ++ (f ++ e))))))
 
--- its pieces, one after the other
-pieces : (kind : Kind) (f : Finished)
-    → with_lf (header_text (finished_header kind f)) ++ (flat_map (λ l. with_lf (line_text l)) (name_lines kind f)
-    ++ (flat_map entry_line f.report.history ++ with_lf (end_text f.report.verdict))) ≡ case_block kind f
-pieces kind f =
-    let last = with_lf (end_text f.report.verdict) in
-    let names = flat_map (λ l. with_lf (line_text l)) (name_lines kind f) in
-    ap (λ inside. with_lf (header_text (finished_header kind f)) ++ inside)
-    (sym (append_assoc names (flat_map entry_line f.report.history) last)
-    ∙ ap (λ lines. (names ++ lines) ++ last) (sym (flat_map-map (λ l. with_lf (line_text l)) Line.Entry f.report.history))
-    ∙ ap (λ lines. lines ++ last) (sym (flat_map-append (λ l. with_lf (line_text l)) (name_lines kind f) (map Line.Entry f.report.history))))
+module _ (h : Header) (names : List (List ℕ)) (history : List Entry) (v : Verdict) where
+  abbrev first_line : List ℕ
+  first_line = with_lf (header_text h)
 
--- what appends them appends the block
-pub all_appended : (kind : Kind) (f : Finished) (old a b c d : List ℕ) → a ≡ old ++ with_lf (header_text (finished_header kind f))
-    → b ≡ a ++ flat_map (λ l. with_lf (line_text l)) (name_lines kind f) → c ≡ b ++ flat_map entry_line f.report.history
-    → d ≡ c ++ with_lf (end_text f.report.verdict) → d ≡ old ++ case_block kind f
-all_appended kind f old a b c d first second third last =
-    let header = with_lf (header_text (finished_header kind f)) in
-    let names = flat_map (λ l. with_lf (line_text l)) (name_lines kind f) in
-    let entries = flat_map entry_line f.report.history in
-    let end = with_lf (end_text f.report.verdict) in
-    rw (last, third, second, first) (append_assoc ((old ++ header) ++ names) entries end ∙ append_assoc (old ++ header) names (entries ++ end)
-    ∙ append_assoc old header (names ++ (entries ++ end)) ∙ ap (λ l. old ++ l) (pieces kind f))
+  abbrev name_lines : List ℕ
+  name_lines = flat_map (λ l. with_lf (line_text l)) (namings 0 names)
+
+  abbrev entry_lines : List ℕ
+  entry_lines = flat_map entry_line history
+
+  abbrev last_line : List ℕ
+  last_line = with_lf (end_text v)
+
+  -- the pieces of a block, one after the other
+  block_pieces : first_line ++ (name_lines ++ (entry_lines ++ last_line)) ≡ named_block h names history v
+  block_pieces =
+      ap (λ inside. first_line ++ inside)
+      (sym (append_assoc name_lines entry_lines last_line)
+      ∙ ap (λ lines. (name_lines ++ lines) ++ last_line) (sym (flat_map-map (λ l. with_lf (line_text l)) Line.Entry history))
+      ∙ ap (λ lines. lines ++ last_line) (sym (flat_map-append (λ l. with_lf (line_text l)) (namings 0 names) (map Line.Entry history))))
+
+  -- what appends them appends the block
+  pub all_appended : (old a b c d : List ℕ) → a ≡ old ++ first_line → b ≡ a ++ name_lines → c ≡ b ++ entry_lines → d ≡ c ++ last_line
+      → d ≡ old ++ named_block h names history v
+  all_appended old a b c d first second third last =
+      rw (last, third, second, first) (append_assoc ((old ++ first_line) ++ name_lines) entry_lines last_line ∙ append_assoc (old ++ first_line) name_lines (entry_lines ++ last_line)
+      ∙ append_assoc old first_line (name_lines ++ (entry_lines ++ last_line)) ∙ ap (λ l. old ++ l) block_pieces)
 
 -- what holds if there is a fault
 pub when_err : {T E P : Type 0} (r : Result T E) → P → OnErr r P

@@ -1,12 +1,10 @@
 -- What the functions inside say, which no public clause names.
-use Rattle.std.specs.Prelude.{ℕ, ◌≡◌, ◌+◌, ◌==◌, Bool, true, false, MatchOption, None, Option, List, [], ◌∷◌, ◌++◌, codes, filter, if◌then◌else◌, length, map, nat_lt, not, slice_get}
-use Rattle.std.specs.{Global.Vec, Io.KnownBytes.Appends, List.enumerate_from, List.flat_map, List.join_with_byte, Option.option_and_then, Option.option_map_or}
-use Rattle.csv.specs.declared.writer.Writer.{Writer}
-use Rattle.csv.specs.Writing.{default_writer, writer_setup, fields_written, has_written, writer_under, writer_pending}
+use Rattle.std.specs.{Prelude.{ℕ, ◌≡◌, ◌+◌, ◌==◌, ◌&&◌, Bool, true, false, MatchOption, None, Option, Some, List, [], ◌∷◌, ◌++◌, codes, filter, if◌then◌else◌, length, map, nat_lt, not}, Global.Vec, Io.KnownBytes.Appends, List.{enumerate_from, flat_map, join_with_byte}, Option.{option_map_or, unwrap_or}}
+use Rattle.csv.specs.{declared.writer.Writer.Writer, Writing.{default_writer, writer_setup, fields_written, has_written, writer_under, writer_pending}}
 use Rattle.tc_stream.specs.Prelude.{AppendsPrefix}
-use Rattle.tc_rules.specs.Prelude.{Comp, Entry, name_in, name_of, created, is_parked, Verdict, level_of}
-use Rattle.tc_blocks.specs.declared.{header.Kind.Kind, line.Line.Line as BlockLine}
-use Rattle.tc_report.specs.{Blocks.blocks_text, Blocks.name_lines, Cause.cause_text, Cause.named_text, Csv.columns_text, Csv.csv_of, Live.opening_text, Live.part_text, Observers.AreTaken, Progress.AreLinesOf, Progress.failed_lines, Progress.time_text, Report.report_text, Report.shown_entry, Report.tally_of_cases, Status.counted_as, Status.verdict_status, Summary.case_summary, SummaryText.listed, declared.cause.Cause.Cause, declared.fault.OutFault.OutFault, declared.live_form.LiveForm.LiveForm, declared.progress.Progress.Progress, declared.results.Finished.Finished, declared.results.Results.Results, declared.results.Tally.Tally, declared.summary.Summary.Summary}
+use Rattle.tc_rules.specs.Prelude.{Comp, Entry, Kept, StandsFor, name_in, name_of, created, is_parked, Verdict, level_of}
+use Rattle.tc_blocks.specs.declared.{header.{Header.Header, Kind.Kind}, line.Line.Line as BlockLine}
+use Rattle.tc_report.specs.{Blocks.{block_names, blocks_text}, Csv.{columns_text, csv_of}, Live.{opening_text, part_text}, InWords.{behaviour_of, component_text, name_at}, Observers.AreTaken, Progress.{AreLinesOf, again_lines, case_place, is_failure, time_text}, Report.{count_of, report_text, tally_of_cases}, Status.{counted_as, verdict_status}, Summary.case_summary, SummaryText.listed, Waits.before_stuck, declared.{fault.OutFault.OutFault, live_form.LiveForm.LiveForm, naming.Naming.Naming, progress.Progress.Progress, results.{Finished.Finished, Results.Results, Tally.Tally}, said.Said.Said, summary.Summary.Summary}}
 
 -- the bytes in memory, and then those that the writer holds back
 abbrev pub written_by : Writer (Vec ℕ) → List ℕ
@@ -23,6 +21,10 @@ pub record IsStarted (w : Writer (Vec ℕ)) : Type 0 where
   pub between : IsBetweenRecords w
   pub header : written_by w ≡ columns_text
 
+-- how many components a test case has, and how many of them have each local verdict
+abbrev pub counts_of : List Verdict → List ℕ
+counts_of locals = length locals ∷ map (λ v. count_of v locals) (Verdict.None ∷ Verdict.Pass ∷ Verdict.Inconc ∷ Verdict.Fail ∷ Verdict.Error ∷ [])
+
 -- fields with a comma between them, and LF
 abbrev pub csv_line : List (List ℕ) → List ℕ
 csv_line fields = join_with_byte 44 fields ++ (10 ∷ [])
@@ -33,6 +35,10 @@ form_text LiveForm.Text r = report_text r
 form_text LiveForm.Csv r = csv_of (map case_summary r.finished)
 form_text LiveForm.History r = blocks_text Kind.History2 r
 form_text LiveForm.Evidence r = blocks_text Kind.Evidence r
+
+-- the name of the behaviour of a run, empty if it has none here
+abbrev pub name_or_none : List Naming → ℕ → List ℕ
+name_or_none names b = unwrap_or (behaviour_of names b) []
 
 -- what of it comes up to the last of these test cases
 abbrev pub text_so_far : LiveForm → List Finished → List ℕ
@@ -46,17 +52,27 @@ IsOneMore before f after = (fs : List Finished) → before ≡ tally_of_cases fs
 abbrev pub made_name : Entry → List (Option (List ℕ))
 made_name e = option_map_or (λ (c : Comp). name_in e.op ∷ []) (created e.op e.reply) []
 
--- the lines inside the block of a finished test case: the names, and then the entries
+-- a line for the name of each behaviour, from that of this run on
+abbrev pub namings : ℕ → List (List ℕ) → List BlockLine
+namings run names = map (λ p. BlockLine.Named (record { 0 = p.0 }) p.1) (enumerate_from run names)
+
+-- the first line of the block of a finished test case
+abbrev pub finished_header : Kind → Finished → Header
+finished_header kind f = record { kind = kind; name = f.name; behaviours = f.report.behaviours }
+
+-- the lines inside that block: the names, and then the entries
 abbrev pub case_lines : Kind → Finished → List BlockLine
-case_lines kind f = name_lines kind f ++ map BlockLine.Entry f.report.history
+case_lines kind f = namings 0 (block_names kind f) ++ map BlockLine.Entry f.report.history
+
+-- what was said, with one line more after that many entries
+abbrev pub said_with : Said → ℕ → BlockLine → Said
+said_with s at (BlockLine.Named run name) = record s { names = s.names ++ record { run = run.0; name = name } ∷ [] }
+said_with s at (BlockLine.Remark run sentence) = record s { remarks = s.remarks ++ record { at = at; run = run; sentence = sentence } ∷ [] }
+said_with s at l = s
 
 -- how many of the test cases have the overall verdict v
 abbrev pub cases_of : Verdict → List Finished → ℕ
 cases_of v cases = length (filter (λ f. level_of f.report.verdict == level_of v) cases)
-
--- a line for the name of each behaviour, from that of this run on
-abbrev pub namings : ℕ → List (List ℕ) → List BlockLine
-namings run names = map (λ p. BlockLine.Named (record { 0 = p.0 }) p.1) (enumerate_from run names)
 
 module _ {O : Type 0} (takes : O → Finished → O → Bool → Type 0) where
   -- the observer was given each of these test cases once, in their order, and ended the campaign at the last
@@ -84,44 +100,48 @@ tally_with t v = record {
   error = t.error + one_if (level_of v == level_of Verdict.Error);
 }
 
--- the line of a finished test case of which this decided the verdict, after its front
-abbrev pub rest_by : Option Cause → Option (ℕ × ℕ) → Finished → List ℕ
-rest_by cause time f =
-    codes " " ++ (f.name ++ (codes " " ++ (name_of f.report.verdict ++ (time_text time
-    ++ (option_map_or (λ (c : Cause). codes ": " ++ cause_text c) cause [] ++ codes "\n")))))
+-- the line of a finished test case with this reason, after its front
+abbrev pub rest_by : List ℕ → Option (ℕ × ℕ) → Finished → List ℕ
+rest_by why time f = codes " " ++ (f.name ++ (codes " " ++ (name_of f.report.verdict ++ (time_text (codes " ") time (codes " s") ++ (why ++ codes "\n")))))
 
--- the line that names it again, if it has failed
-abbrev pub failed_by : Option Cause → Finished → List ℕ
-failed_by cause f = if nat_lt 0 (verdict_status f.report.verdict) then codes "failed:" ++ rest_by cause None f else []
+-- the line that names it again, if it has failed and not only failures are printed
+abbrev pub again_by : Bool → List ℕ → Finished → List ℕ
+again_by only why f = if only then [] else (if is_failure f then codes "failed:" ++ rest_by why None f else [])
+
+-- its line in this place, if it is printed
+abbrev pub line_by_place : Bool × List (List ℕ) → ℕ → List ℕ → Option (ℕ × ℕ) → Finished → List ℕ
+line_by_place shown at why time f = if shown.0 && not (is_failure f) then [] else case_place shown.1 at ++ rest_by why time f
 
 module _ {O E C : Type 0} where
   -- a line was printed or not, and maybe one is kept
   pub record OnlyPrints (before after : Progress O E C) : Type 0 where
     pub others : after.observer ≡ before.observer
+    pub watch : after.watch ≡ before.watch
     pub same_writer : after.writer.ghost_name ≡ before.writer.ghost_name
     pub same_failed : after.failed.ghost_name ≡ before.failed.ghost_name
-    pub names : after.names ≡ before.names
-    pub told : after.told ≡ before.told
+    pub shown : after.shown ≡ before.shown
+    pub tally : after.tally ≡ before.tally
     pub begun : after.begun ≡ before.begun
     pub fault : after.fault ≡ before.fault
 
 -- so far each of these was reported, and a text has the lines of those that have failed; or a line was not printed whole
-abbrev pub IsSoFar : List (List ℕ) → Option (List ℕ) → List Finished → Option (List ℕ) → List ℕ → Option OutFault → ℕ → Bool → Type 0
-IsSoFar names start fs now again fault told begun =
-    (begins : Bool) × (text : List ℕ) × AreLinesOf names 0 fs begins text
-    × MatchOption fault ((told ≡ length fs) × (begun ≡ begins) × Appends start now text × (again ≡ failed_lines fs)) (λ _. AppendsPrefix start now text)
+abbrev pub IsSoFar : Bool × List (List ℕ) → Option (List ℕ) → List Finished → Option (List ℕ) → List ℕ → Option OutFault → Tally → Bool → Type 0
+IsSoFar shown start fs now again fault tally begun =
+    (begins : Bool) × (text : List ℕ) × AreLinesOf shown 0 fs begins text
+    × MatchOption fault ((tally ≡ tally_of_cases fs) × (begun ≡ begins) × Appends start now text × (again ≡ again_lines shown.0 fs)) (λ _. AppendsPrefix start now text)
 
 -- a list that continues with this text continues after it, and its line has this room left
 abbrev pub IsNext : List ℕ → ℕ → List ℕ → ℕ → List ℕ → Type 0
 IsNext text room before left after = (ts : List (List ℕ)) → after ++ listed left ts ≡ before ++ listed room (text ∷ ts)
 
+-- the state before the first call that is replied to so; none if there is no such call
+abbrev pub IsBeforeStuck : ℕ → List Entry → Option Kept → Type 0
+IsBeforeStuck n past None = before_stuck n past ≡ None
+IsBeforeStuck n past (Some state) = (before : List Entry) × (before_stuck n past ≡ Some before) × StandsFor state before
+
 -- an entry that was not parked
 abbrev pub is_shown : Entry → Bool
 is_shown e = not (is_parked e.reply)
-
--- what is shown of an entry, deeper in
-abbrev pub inner_call : Entry → List ℕ
-inner_call e = codes "  " ++ shown_entry e
 
 -- a test case with a status other than 0
 abbrev pub has_failed : Summary → Bool
@@ -133,4 +153,9 @@ numbers_with v locals = map (λ p. p.0) (filter (λ p. level_of p.1 == level_of 
 
 -- one of them, and its name if it has one
 abbrev pub member_text : List (Option (List ℕ)) → ℕ → List ℕ
-member_text names comp = named_text (option_and_then (λ n. n) (slice_get names comp)) comp
+member_text names comp = component_text comp (name_at names comp)
+
+-- all of them, each with its name if it has one
+abbrev pub members : List (Option (List ℕ)) → List Verdict → Verdict → List (List ℕ)
+members names locals v =
+    map (λ p. component_text p.0 (name_at names p.0)) (filter (λ p. level_of p.1 == level_of v) (enumerate_from 0 locals))

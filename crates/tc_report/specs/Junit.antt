@@ -1,75 +1,105 @@
--- The JUnit report: XML, as servers of continuous integration read it. No text in it needs an escape: names have only
--- letters, digits and `_`.
-use Rattle.std.specs.Prelude.{ℕ, ◌==◌, Option, Some, None, List, [], ◌++◌, length, filter, codes, unwrap_or}
-use Rattle.std.specs.{Fmt.decimal, List.flat_map}
+-- The JUnit report: XML, as servers of continuous integration read it. Only what a run said needs an escape: names have
+-- only letters, digits and `_`.
+use Rattle.std.specs.{Prelude.{ℕ, ◌==◌, if◌then◌else◌, Option, Some, None, List, [], ◌∷◌, ◌++◌, false, length, filter, codes, slice_get, unwrap_or}, Fmt.decimal, List.{enumerate_from, flat_map}, Option.{option_and_then, option_map_or}}
+use Rattle.jiff_core.specs.declared.civil.datetime.DateTime.{DateTime}
+use Rattle.jiff_fmt.specs.Text.{datetime_text}
 use Rattle.tc_rules.specs.Prelude.{refusal_text, Verdict, level_of, name_of}
-use Rattle.tc_report.specs.{Cause.cause_text, Report.local_lines, Report.shown_entry, Status.counted_as, Status.verdict_status, declared.cause.Cause.Cause, declared.results.CaseEnd.CaseEnd, declared.summary.Summary.Summary}
+use Rattle.tc_report.specs.{Cause.decided_text, InWords.named_entry, Progress.time_text, Status.{counted_as, verdict_status}, SummaryText.verdict_groups, declared.{cause.Cause.Cause, results.CaseEnd.CaseEnd, stopwatch.Times.Times, summary.Summary.Summary}}
+
+-- a byte in XML: without `]` no text has the end of a section in it, so `>` stays
+abbrev pub escaped_byte : ℕ → List ℕ
+escaped_byte b =
+    if b == 34 then codes "&quot;" else if b == 38 then codes "&amp;" else if b == 60 then codes "&lt;" else if b == 93 then codes "&#93;" else b ∷ []
 
 -- how many of the test cases count with this status: 1 is a failure, and 2 an error
 abbrev pub with_status : ℕ → List Summary → ℕ
 with_status status ss = length (filter (λ s. verdict_status (counted_as s.ending) == status) ss)
 
--- how many of them are skipped: no verdict was set
-abbrev pub skipped : List Summary → ℕ
-skipped ss = length (filter (λ s. level_of (counted_as s.ending) == 0) ss)
-
 -- an attribute that is a number
 unfoldable pub number_text : List ℕ → ℕ → List ℕ
 number_text name n = name ++ (decimal n ++ codes "\"")
 
--- the counts, as attributes
+-- an attribute that is a text
+unfoldable pub attribute_text : List ℕ → List ℕ → List ℕ
+attribute_text name text = name ++ (text ++ codes "\"")
+
+-- the counts, as attributes: skipped are those of which no verdict was set
 unfoldable pub counts_attributes : List Summary → List ℕ
 counts_attributes ss =
     number_text (codes " tests=\"") (length ss) ++ (number_text (codes " failures=\"") (with_status 1 ss) ++
-    number_text (codes " errors=\"") (with_status 2 ss))
+    (number_text (codes " errors=\"") (with_status 2 ss) ++ number_text (codes " skipped=\"") (length (filter (λ s. level_of (counted_as s.ending) == 0) ss))))
 
--- the first tag of the suite with this name, without its counts
-unfoldable pub suite_tag : List ℕ → List ℕ
-suite_tag suite = codes ">\n<testsuite name=\"" ++ (suite ++ codes "\"")
+-- a second, as ISO 8601 has it, without a fraction
+unfoldable pub second_text : DateTime → List ℕ
+second_text second = datetime_text false 84 (Some 0) second
 
--- the first tags, each with the counts; the suite also counts those that are skipped
-unfoldable pub head_text : List ℕ → List Summary → List ℕ
-head_text suite ss =
+-- when a run began, as an attribute, if a clock said it
+abbrev pub stamp_attribute : Option DateTime → List ℕ
+stamp_attribute begun = option_map_or (λ d. attribute_text (codes " timestamp=\"") (second_text d)) begun []
+
+-- nothing is known of times
+abbrev pub no_times : Times
+no_times = record { begun = None; whole = None; cases = [] }
+
+-- the attributes of the suite after its name: the counts and the times
+unfoldable pub suite_attributes : Times → List Summary → List ℕ
+suite_attributes times ss = counts_attributes ss ++ (stamp_attribute times.begun ++ time_text (codes " time=\"") times.whole (codes "\""))
+
+-- the first tags
+unfoldable pub head_text : List ℕ → Times → List Summary → List ℕ
+head_text suite times ss =
     codes "<?xml version=\"1.0\" encoding=\"UTF-8\"?>\n<testsuites" ++ (counts_attributes ss ++
-    (suite_tag suite ++ (counts_attributes ss ++ number_text (codes " skipped=\"") (skipped ss))))
+    (attribute_text (codes ">\n<testsuite name=\"") suite ++ suite_attributes times ss))
 
 -- the program's version
 unfoldable pub version_text : List ℕ → List ℕ
-version_text version = codes ">\n<properties>\n<property name=\"version\" value=\"" ++ (version ++ codes "\"/>\n</properties>\n")
+version_text version = attribute_text (codes ">\n<properties>\n<property name=\"version\" value=\"") version ++ codes "/>\n</properties>\n"
 
--- the element of a verdict that is worse than pass, between its first text and its last tag. In it is what decided the
--- verdict, and in lines of their own the same and all calls of that run; if nothing decided it, the verdict's name.
-unfoldable pub verdict_element : List ℕ → Verdict → Option Cause → List ℕ → List ℕ
-verdict_element first v None last = first ++ (codes "verdict " ++ (name_of v ++ (codes "\">\n" ++ last)))
-verdict_element first v (Some c) last =
-    first ++ (cause_text c ++ (codes "\">\n" ++ (cause_text c ++ (codes "\n" ++ (flat_map shown_entry c.log ++ last)))))
+-- what decided the verdict of a test case, and in lines of their own the same, who waits for whom, and all calls of that run
+unfoldable pub cause_element : Summary → Cause → List ℕ
+cause_element s c =
+    let decision = flat_map escaped_byte (decided_text s.names c) in
+    decision ++ (codes "\">\n" ++ (decision ++ (codes "\n" ++ (s.waits ++ flat_map (named_entry (codes "  ") s.names) c.log))))
 
--- what is said of the end of a test case: nothing if its verdict is pass
-unfoldable pub end_element : CaseEnd → Option Cause → List ℕ
-end_element (CaseEnd.Over Verdict.None) cause = codes "<skipped/>\n"
-end_element (CaseEnd.Over Verdict.Pass) cause = []
-end_element (CaseEnd.Over Verdict.Inconc) cause = verdict_element (codes "<failure type=\"inconc\" message=\"") Verdict.Inconc cause (codes "</failure>\n")
-end_element (CaseEnd.Over Verdict.Fail) cause = verdict_element (codes "<failure type=\"fail\" message=\"") Verdict.Fail cause (codes "</failure>\n")
-end_element (CaseEnd.Over Verdict.Error) cause = verdict_element (codes "<error type=\"error\" message=\"") Verdict.Error cause (codes "</error>\n")
-end_element CaseEnd.Unfinished cause = codes "<error type=\"unfinished\" message=\"the test case is not over\"/>\n"
-end_element (CaseEnd.Aborted why) cause = codes "<error type=\"aborted\" message=\"" ++ (refusal_text why ++ codes "\"/>\n")
-end_element CaseEnd.Missing cause = codes "<error type=\"missing\" message=\"there is no history of the test case\"/>\n"
-end_element CaseEnd.NotRun cause = codes "<skipped message=\"not run\"/>\n"
+-- the same of a verdict that is worse than pass; if nothing decided it, its name
+abbrev pub why_element : Summary → Verdict → List ℕ
+why_element s v = option_map_or (cause_element s) s.cause (codes "verdict " ++ (name_of v ++ codes "\">\n"))
 
--- the first tag of a test case, with its name and that of its suite
+-- the element of such a verdict, between its first text and its last tag
+unfoldable pub verdict_element : Summary → List ℕ → Verdict → List ℕ → List ℕ
+verdict_element s first v last = first ++ (why_element s v ++ last)
+
+-- what is said of this end of a test case: nothing if its verdict is pass
+unfoldable pub end_element : Summary → CaseEnd → List ℕ
+end_element s (CaseEnd.Over Verdict.None) = codes "<skipped/>\n"
+end_element s (CaseEnd.Over Verdict.Pass) = []
+end_element s (CaseEnd.Over Verdict.Inconc) = verdict_element s (codes "<failure type=\"inconc\" message=\"") Verdict.Inconc (codes "</failure>\n")
+end_element s (CaseEnd.Over Verdict.Fail) = verdict_element s (codes "<failure type=\"fail\" message=\"") Verdict.Fail (codes "</failure>\n")
+end_element s (CaseEnd.Over Verdict.Error) = verdict_element s (codes "<error type=\"error\" message=\"") Verdict.Error (codes "</error>\n")
+end_element s CaseEnd.Unfinished = codes "<error type=\"unfinished\" message=\"the test case is not over\"/>\n"
+end_element s (CaseEnd.Aborted why) = codes "<error type=\"aborted\" message=\"" ++ (refusal_text why ++ codes "\"/>\n")
+end_element s CaseEnd.Missing = codes "<error type=\"missing\" message=\"there is no history of the test case\"/>\n"
+end_element s CaseEnd.NotRun = codes "<skipped message=\"not run\"/>\n"
+
+-- the first tag of a test case, with its name and that of its suite, without its time
 unfoldable pub name_tag : List ℕ → List ℕ → List ℕ
-name_tag suite name = codes "<testcase name=\"" ++ (name ++ (codes "\" classname=\"" ++ (suite ++ codes "\">\n")))
+name_tag suite name = attribute_text (codes "<testcase name=\"") name ++ attribute_text (codes " classname=\"") suite
 
--- the local verdict of each component, and the last tag of a test case
-unfoldable pub locals_element : List Verdict → List ℕ
-locals_element locals = codes "<system-out>\n" ++ (local_lines locals ++ codes "</system-out>\n</testcase>\n")
+-- the components by their local verdicts, and the last tag of a test case
+unfoldable pub locals_element : List (Option (List ℕ)) → List Verdict → List ℕ
+locals_element names locals = codes "<system-out>\n" ++ (verdict_groups names locals ++ codes "</system-out>\n</testcase>\n")
 
--- a test case: its name, how it ended and why, and the local verdict of each component
-abbrev pub case_element : List ℕ → Summary → List ℕ
-case_element suite s = name_tag suite s.name ++ (end_element s.ending s.cause ++ locals_element s.locals)
+-- a test case: its name, its time, how it ended and why, and its components by their local verdicts
+abbrev pub case_element : List ℕ → Option (ℕ × ℕ) → Summary → List ℕ
+case_element suite time s =
+    name_tag suite s.name ++ (time_text (codes " time=\"") time (codes "\"") ++ (codes ">\n" ++ (end_element s s.ending ++ locals_element s.names.comps s.locals)))
+
+-- all of them, each with its time, if there is one
+abbrev pub case_elements : List ℕ → List (Option (ℕ × ℕ)) → List Summary → List ℕ
+case_elements suite times ss = flat_map (λ p. case_element suite (option_and_then (λ t. t) (slice_get times p.0)) p.1) (enumerate_from 0 ss)
 
 -- the suite of the name that was given, if one was, with all test cases
-abbrev pub junit_of : List ℕ → Option (List ℕ) → List Summary → List ℕ
-junit_of version suite ss =
+abbrev pub junit_of : List ℕ → Option (List ℕ) → Times → List Summary → List ℕ
+junit_of version suite times ss =
     let name = unwrap_or suite (codes "ttrun") in
-    head_text name ss ++ (version_text version ++ (flat_map (case_element name) ss ++ codes "</testsuite>\n</testsuites>\n"))
+    head_text name times ss ++ (version_text version ++ (case_elements name times.cases ss ++ codes "</testsuite>\n</testsuites>\n"))

@@ -1,9 +1,14 @@
 -- The definitions that the contracts of this crate cite.
 pub mod Cause
+pub mod Meaning
+pub mod InWords
+pub mod Said
+pub mod Waits
 pub mod Summary
 pub mod Status
 pub mod Progress
 pub mod Report
+pub mod Replayed
 pub mod Csv
 pub mod Junit
 pub mod Blocks

@@ -1,7 +1,6 @@
 -- The observer, which is given each finished test case, one that keeps them, and the stopping rule. An observer says by
 -- `takes` what one test case does to it, and how it is answered.
-use Rattle.std.specs.Prelude.{◌≡◌, Bool, true, List, [], ◌∷◌, ◌<◌, ◌++◌, length, ◌≤◌, IsSomeAnd, Option}
-use Rattle.std.specs.Vec.{vec_capacity}
+use Rattle.std.specs.{Prelude.{ℕ, ◌≡◌, ◌+◌, Bool, true, List, [], ◌∷◌, ◌<◌, ◌++◌, length, ◌≤◌, IsSomeAnd, Option}, Global.Vec, Vec.{vec_capacity, vec_len}}
 use Rattle.tc_rules.specs.Prelude.{Verdict, level_of}
 use Rattle.tc_report.specs.declared.{kept.Kept.Kept, results.Finished.Finished}
 
@@ -17,6 +16,13 @@ abbrev pub Keeps : Kept → Finished → Kept → Bool → Type 0
 Keeps before f after goes_on =
     length before.finished.items < vec_capacity before.finished → (goes_on ≡ true) × (after.finished.items ≡ before.finished.items ++ f ∷ [])
     × (vec_capacity after.finished ≡ vec_capacity before.finished)
+
+-- what measuring that many test cases does to the times that are kept: if there is room for theirs, these come after the
+-- others, and the room stays
+abbrev pub KeepsTimes : Vec (Option (ℕ × ℕ)) → ℕ → Vec (Option (ℕ × ℕ)) → Type 0
+KeepsTimes before n after =
+    vec_len before + n ≤ vec_capacity before
+    → (times : List (Option (ℕ × ℕ))) × (length times ≡ n) × (after.items ≡ before.items ++ times) × (vec_capacity after ≡ vec_capacity before)
 
 -- the verdict is stop_on or worse; without a stopping rule none is
 abbrev pub IsMet : Option Verdict → Verdict → Type 0

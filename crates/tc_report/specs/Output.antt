@@ -1,6 +1,5 @@
 -- What a fault of an output says.
-use Rattle.std.specs.Prelude.{ℕ, List, Option}
-use Rattle.std.specs.Io.KnownBytes.{Keeps}
+use Rattle.std.specs.{Prelude.{ℕ, List, Option}, Io.KnownBytes.Keeps}
 use Rattle.tc_stream.specs.Prelude.{AppendsPrefix, write_text}
 use Rattle.tc_rules.specs.Prelude.{memory_text}
 use Rattle.tc_report.specs.declared.fault.OutFault.{OutFault}

@@ -1,8 +1,6 @@
 -- The text report of a campaign, with its tally and how it ended.
-use Rattle.std.specs.Prelude.{ℕ, ◌==◌, if◌then◌else◌, List, [], ◌∷◌, ◌++◌, length, filter, codes, Bool, true, false, slice_get, unwrap_or}
-use Rattle.std.specs.{Fmt.decimal, List.enumerate_from, List.flat_map}
-use Rattle.tc_rules.specs.Prelude.{Verdict, level_of, is_parked, refusal_text, name_of, Entry, Op, Reply}
-use Rattle.tc_rules.specs.declared.{refusal.CaseError.CaseError, run_log.RunLog.RunLog}
+use Rattle.std.specs.{Prelude.{ℕ, ◌==◌, if◌then◌else◌, List, [], ◌∷◌, ◌++◌, length, filter, codes, Bool, true, false, slice_get, unwrap_or}, Fmt.decimal, List.{enumerate_from, flat_map}}
+use Rattle.tc_rules.specs.{Prelude.{Verdict, level_of, is_parked, refusal_text, name_of, Entry, Op}, declared.{refusal.CaseError.CaseError, run_log.RunLog.RunLog}}
 use Rattle.tc_text.specs.Prelude.{op_text, reply_text}
 use Rattle.tc_report.specs.declared.results.{CampaignEnd.CampaignEnd, Finished.Finished, Results.Results, Tally.Tally}
 
@@ -50,22 +48,14 @@ abbrev pub shown_op : Op → Op
 shown_op (Op.Wake killed target) = Op.Wait killed target
 shown_op op = op
 
--- a call, and its reply
-abbrev pub call_text : Op → Reply → List ℕ
-call_text op reply = op_text (shown_op op) ++ (codes " -> " ++ reply_text reply)
-
--- the line of an entry: none if it was parked
+-- the line of an entry, a call and its reply: none if it was parked
 abbrev pub shown_entry : Entry → List ℕ
-shown_entry e = if is_parked e.reply then [] else codes "  " ++ (call_text e.op e.reply ++ (10 ∷ []))
+shown_entry e = if is_parked e.reply then [] else codes "  " ++ ((op_text (shown_op e.op) ++ (codes " -> " ++ reply_text e.reply)) ++ (10 ∷ []))
 
--- the line of a run: its number, its behaviour's name if it has one, and its component
-abbrev pub run_line : List (List ℕ) → RunLog → List ℕ
-run_line names log =
-    codes "run " ++ (decimal log.run.0 ++ (codes " " ++ (unwrap_or (slice_get names log.run.0) [] ++ (codes " on " ++ (decimal log.comp.0 ++ (10 ∷ []))))))
-
--- a run that was started, and its log
-abbrev pub run_text : List (List ℕ) → RunLog → List ℕ
-run_text names log = run_line names log ++ flat_map shown_entry log.entries
+-- a run that was started: its number, its behaviour's name, if it has one here, its component, and its log
+abbrev pub run_text : (ℕ → List ℕ) → RunLog → List ℕ
+run_text names log =
+    (codes "run " ++ (decimal log.run.0 ++ (codes " " ++ (names log.run.0 ++ (codes " on " ++ (decimal log.comp.0 ++ (10 ∷ []))))))) ++ flat_map shown_entry log.entries
 
 -- the lines of local verdicts, each with the number of its component
 abbrev pub local_lines : List Verdict → List ℕ
@@ -75,11 +65,14 @@ local_lines vs = flat_map (λ p. codes "local " ++ (decimal p.0 ++ (codes " " ++
 abbrev pub verdict_line : Verdict → List ℕ
 verdict_line v = codes "verdict " ++ (name_of v ++ (10 ∷ []))
 
--- a finished test case: its name, its runs by their numbers, the local verdicts, and the overall verdict
+-- a test case: its name, its runs by their numbers, the local verdicts, and the overall verdict
+abbrev pub test_case_text : List ℕ → (ℕ → List ℕ) → List RunLog → List Verdict → Verdict → List ℕ
+test_case_text name names logs locals verdict =
+    (codes "testcase " ++ (name ++ (10 ∷ []))) ++ (flat_map (run_text names) logs ++ (local_lines locals ++ verdict_line verdict))
+
+-- a finished test case
 abbrev pub case_text : Finished → List ℕ
-case_text f =
-    (codes "testcase " ++ (f.name ++ (10 ∷ [])))
-    ++ (flat_map (run_text f.names) f.report.logs ++ (local_lines f.report.locals ++ verdict_line f.report.verdict))
+case_text f = test_case_text f.name (λ b. unwrap_or (slice_get f.names b) []) f.report.logs f.report.locals f.report.verdict
 
 -- each finished test case, the tally and the ending
 abbrev pub report_text : Results → List ℕ

@@ -1,7 +1,7 @@
 -- The exit status for test cases, by how they ended.
 use Rattle.std.specs.Prelude.{ℕ, if◌then◌else◌, List, map}
 use Rattle.tc_rules.specs.Prelude.{Verdict, worst}
-use Rattle.tc_report.specs.{Report.is_aborted, Summary.case_summary, declared.results.CampaignEnd.CampaignEnd, declared.results.CaseEnd.CaseEnd, declared.results.Results.Results, declared.summary.Summary.Summary}
+use Rattle.tc_report.specs.{Report.is_aborted, Summary.case_summary, declared.{results.{CampaignEnd.CampaignEnd, CaseEnd.CaseEnd, Results.Results}, summary.Summary.Summary}}
 
 -- the status for a verdict
 abbrev pub verdict_status : Verdict → ℕ

@@ -1,43 +1,61 @@
 -- What reports say of a test case, by its history or by its own report: both summaries are the same.
-use Rattle.std.specs.Prelude.{ℕ, nat_lt, if◌then◌else◌, Option, None, List, [], ◌∷◌, ◌++◌, drop, length, map, reverse, ◌≡◌}
-use Rattle.std.specs.{List.AllZip, List.flat_map, Option.option_map_or}
-use Rattle.tc_rules.specs.Prelude.{level_of, Comp, Entry, name_in, created, Verdict, comps, is_over, local, overall, IsOneHistory}
-use Rattle.tc_blocks.specs.declared.history_block.History.{History}
-use Rattle.tc_report.specs.{Cause.cause_of, declared.results.CampaignEnd.CampaignEnd, declared.results.CaseEnd.CaseEnd, declared.results.Finished.Finished, declared.results.Results.Results, declared.summary.Summary.Summary}
+use Rattle.std.specs.{Prelude.{ℕ, if◌then◌else◌, None, List, [], ◌∷◌, ◌++◌, drop, length, map, reverse, take, ◌≡◌}, List.{AllZip, flat_map}, Option.option_map_or}
+use Rattle.tc_rules.specs.Prelude.{Comp, Entry, name_in, created, Verdict, comps, is_over, local, overall, IsOneHistory}
+use Rattle.tc_blocks.specs.{Prelude.entries_of, declared.{block.Block.Block, header.Kind.Kind, line.Line.Line}}
+use Rattle.tc_report.specs.{Blocks.{block_names, name_lines}, Cause.cause_of, InWords.namings_of, Said.said_in, Waits.waits_text, declared.{naming.{Names.Names, Naming.Naming}, results.{CampaignEnd.CampaignEnd, CaseEnd.CaseEnd, Finished.Finished, Results.Results}, said.Said.Said, summary.Summary.Summary}}
 
--- the names of the components of a history by their numbers, as a Create that made one gave it; the main component has none
-abbrev pub comp_names : List Entry → List (Option (List ℕ))
-comp_names history = None ∷ flat_map (λ e. option_map_or (λ (c : Comp). name_in e.op ∷ []) (created e.op e.reply) []) history
+-- the names of the components of a history by their numbers, as a Create that made one gave it, of which the main component has
+-- none; and these of behaviours
+abbrev pub names_in : List Entry → List Naming → Names
+names_in history runs =
+    record { comps = None ∷ flat_map (λ e. option_map_or (λ (c : Comp). name_in e.op ∷ []) (created e.op e.reply) []) history; runs = runs }
 
--- what is said of them for a test case with this end: nothing if its verdict is none or pass
-abbrev pub names_of : CaseEnd → List Entry → List (Option (List ℕ))
-names_of (CaseEnd.Over v) history = if nat_lt 1 (level_of v) then comp_names history else []
-names_of ending history = comp_names history
+-- no names
+abbrev pub no_names : Names
+no_names = record { comps = []; runs = [] }
 
--- how a test case with these past entries, the newest first, ended
-abbrev pub case_end : List Entry → CaseEnd
-case_end past = if is_over past then CaseEnd.Over (overall past) else CaseEnd.Unfinished
+-- the test case of this name, with these local verdicts, this end and this history, next to which this is said
+abbrev pub summary_with : List ℕ → List Verdict → CaseEnd → List Entry → Said → Summary
+summary_with name locals ending history said =
+    record { name = name; locals = locals; names = names_in history said.names; ending = ending; cause = cause_of ending said.remarks history; waits = [] }
 
--- the test case of this name, with these local verdicts, this end and this history
-abbrev pub summary_with : List ℕ → List Verdict → CaseEnd → List Entry → Summary
-summary_with name locals ending history =
-    record { name = name; locals = locals; names = names_of ending history; ending = ending; cause = cause_of ending history }
+-- who waits for whom in a history of n behaviours with this end, if its verdict is error
+abbrev pub waits_if : CaseEnd → Names → ℕ → List Entry → List ℕ
+waits_if (CaseEnd.Over Verdict.Error) names n history = waits_text names n history
+waits_if ending names n history = []
 
--- the test case of this name, with these entries
-abbrev pub summary_of : List ℕ → List Entry → Summary
-summary_of name history = summary_with name (map (local (reverse history)) (comps (reverse history))) (case_end (reverse history)) history
+-- the test case with who waits for whom in this history of n behaviours
+abbrev pub with_waits : ℕ → List Entry → Summary → Summary
+with_waits n history s = record s { waits = waits_if s.ending s.names n history }
 
--- the test case of a block of a history text
-abbrev pub block_summary : History → Summary
-block_summary b = summary_of b.name b.entries
+-- the test case of this name and of n behaviours, with these entries and what is said next to them; it may not be over
+abbrev pub summary_of : List ℕ → ℕ → List Entry → Said → Summary
+summary_of name n history said =
+    let past = reverse history in
+    let ending = if is_over past then CaseEnd.Over (overall past) else CaseEnd.Unfinished in
+    with_waits n history (summary_with name (map (local past) (comps past)) ending history said)
 
--- a finished test case, by its report
+-- the test case of a block
+abbrev pub block_summary : Block → Summary
+block_summary b = summary_of b.header.name b.header.behaviours (entries_of b.lines) (said_in b.lines)
+
+-- what a block of a finished test case says next to its entries: in evidence the names of its behaviours, in a history nothing
+abbrev pub said_of : Kind → Finished → Said
+said_of Kind.Evidence f = record { names = namings_of (take f.report.behaviours f.names); remarks = [] }
+said_of kind f = record { names = []; remarks = [] }
+
+-- a finished test case by its report, as such a block has it
+abbrev pub written_summary : Kind → Finished → Summary
+written_summary kind f =
+    with_waits f.report.behaviours f.report.history (summary_with f.name f.report.locals (CaseEnd.Over f.report.verdict) f.report.history (said_of kind f))
+
+-- the same with all that evidence says
 abbrev pub case_summary : Finished → Summary
-case_summary f = summary_with f.name f.report.locals (CaseEnd.Over f.report.verdict) f.report.history
+case_summary f = written_summary Kind.Evidence f
 
 -- the test case of this name that ended so, without a local verdict
 abbrev pub bare_summary : CaseEnd → List ℕ → Summary
-bare_summary ending name = record { name = name; locals = []; names = []; ending = ending; cause = None }
+bare_summary ending name = record { name = name; locals = []; names = no_names; ending = ending; cause = None; waits = [] }
 
 -- the test case that has no report, if there is one
 abbrev pub aborted_summary : CampaignEnd → List Summary
@@ -51,12 +69,14 @@ results_summaries names r =
     let begun = map case_summary r.finished ++ aborted_summary r.ending in
     begun ++ map (bare_summary CaseEnd.NotRun) (drop (length begun) names)
 
--- the report of the finished test case is one history, and the block has its name and its history
-pub record IsBlockOf (f : Finished) (b : History) : Type 0 where
-  pub name : b.name ≡ f.name
-  pub entries : b.entries ≡ f.report.history
+-- the report of the finished test case is one history, and the block has its name and the lines that a run writes
+pub record IsBlockOf (kind : Kind) (f : Finished) (b : Block) : Type 0 where
+  pub name : b.header.name ≡ f.name
+  pub behaviours : b.header.behaviours ≡ f.report.behaviours
+  pub lines : b.lines ≡ name_lines (block_names kind f) ++ map Line.Entry f.report.history
   pub report : IsOneHistory f.report
 
--- of the blocks of results the summaries are those of the finished test cases, and so is all that is made of them
-abbrev pub SummariesOfHistories : Type 0
-SummariesOfHistories = (r : Results) (bs : List History) → AllZip IsBlockOf r.finished bs → map block_summary bs ≡ map case_summary r.finished
+-- of the evidence of results the summaries are those of the finished test cases, and so is all that is made of them; of their
+-- histories they are that without the names of behaviours
+abbrev pub SummariesOfBlocks : Type 0
+SummariesOfBlocks = (kind : Kind) (r : Results) (bs : List Block) → AllZip (IsBlockOf kind) r.finished bs → map block_summary bs ≡ map (written_summary kind) r.finished

@@ -1,9 +1,8 @@
 -- The summary of test cases, a page for a person: the counts, and of each test case that failed its name, how it ended, why, and
 -- its components by their local verdicts.
-use Rattle.std.specs.Prelude.{ℕ, ◌+◌, ◌-◌, ◌==◌, nat_lt, not, if◌then◌else◌, Option, Some, List, [], ◌∷◌, ◌++◌, codes, drop, filter, length, map, slice_get, take}
-use Rattle.std.specs.{Fmt.decimal, List.enumerate_from, List.flat_map, Option.option_and_then, Str.bytes_eq}
+use Rattle.std.specs.{Prelude.{ℕ, ◌+◌, ◌-◌, ◌==◌, nat_lt, not, if◌then◌else◌, Option, Some, List, [], ◌∷◌, ◌++◌, codes, drop, filter, length, map, take}, Fmt.decimal, List.{enumerate_from, flat_map}, Str.bytes_eq}
 use Rattle.tc_rules.specs.Prelude.{refusal_text, is_parked, Verdict, Entry, level_of, name_of}
-use Rattle.tc_report.specs.{Cause.cause_text, Cause.named_text, Csv.end_word, Report.shown_entry, Report.tally_by, Report.tally_line, Status.counted_as, Status.verdict_status, declared.cause.Cause.Cause, declared.results.CaseEnd.CaseEnd, declared.summary.Summary.Summary}
+use Rattle.tc_report.specs.{Cause.decided_text, Csv.end_word, InWords.{component_text, name_at, named_entry}, Report.{tally_by, tally_line}, Status.{counted_as, verdict_status}, declared.{cause.Cause.Cause, naming.Names.Names, results.CaseEnd.CaseEnd, summary.Summary.Summary}}
 
 -- how many of the test cases ended with this word
 abbrev pub ended_so : List ℕ → List Summary → ℕ
@@ -19,11 +18,6 @@ counts_text ss =
     tally_line (tally_by (length ss) (λ v. ended_so (name_of v) ss)) ++ (other_line (codes "unfinished") ss ++ (other_line (codes "aborted") ss
     ++ (other_line (codes "missing") ss ++ other_line (codes "notrun") ss)))
 
--- the components with this local verdict, each with its name if it has one
-abbrev pub members : List (Option (List ℕ)) → List Verdict → Verdict → List (List ℕ)
-members names locals v =
-    map (λ p. named_text (option_and_then (λ n. n) (slice_get names p.0)) p.0) (filter (λ p. level_of p.1 == level_of v) (enumerate_from 0 locals))
-
 -- the others of a list: each in the same line, if there is room for it, otherwise in the next
 abbrev pub listed : ℕ → List (List ℕ) → List ℕ
 listed room [] = codes "\n"
@@ -34,24 +28,28 @@ abbrev pub verdict_group : Verdict → List (List ℕ) → List ℕ
 verdict_group v [] = []
 verdict_group v (t ∷ ts) = codes "  " ++ (name_of v ++ (codes ": " ++ (t ++ listed (67 - length t) ts)))
 
--- the components by their local verdicts, the worst first
+-- the components by their local verdicts, the worst first, each with its name if it has one
 abbrev pub verdict_groups : List (Option (List ℕ)) → List Verdict → List ℕ
-verdict_groups names locals = flat_map (λ v. verdict_group v (members names locals v)) (Verdict.Error ∷ Verdict.Fail ∷ Verdict.Inconc ∷ Verdict.Pass ∷ Verdict.None ∷ [])
+verdict_groups names locals =
+    flat_map (λ v. verdict_group v (map (λ p. component_text p.0 (name_at names p.0)) (filter (λ p. level_of p.1 == level_of v) (enumerate_from 0 locals))))
+    (Verdict.Error ∷ Verdict.Fail ∷ Verdict.Inconc ∷ Verdict.Pass ∷ Verdict.None ∷ [])
 
 -- the last five of the calls of a run, if there are some
-abbrev pub calls_text : List Entry → List ℕ
-calls_text [] = []
-calls_text es = codes "  after:\n" ++ flat_map (λ e. codes "  " ++ shown_entry e) (drop (length es - 5) es)
+abbrev pub calls_text : Names → List Entry → List ℕ
+calls_text names [] = []
+calls_text names es = codes "  after:\n" ++ flat_map (named_entry (codes "    ") names) (drop (length es - 5) es)
 
--- why a test case ended so: what decided its verdict, with the calls before it that were not parked, or why it has no report
-unfoldable pub reason_lines : CaseEnd → Option Cause → List ℕ
-reason_lines (CaseEnd.Over v) (Some c) = codes "  " ++ (cause_text c ++ (codes "\n" ++ calls_text (filter (λ e. not (is_parked e.reply)) (take c.before c.log))))
-reason_lines (CaseEnd.Aborted refused) cause = codes "  " ++ (refusal_text refused ++ codes "\n")
-reason_lines ending cause = []
+-- why a test case ended so: what decided its verdict, who waits for whom, and the calls before it that were not parked; or why
+-- it has no report
+unfoldable pub reason_lines : Summary → CaseEnd → Option Cause → List ℕ
+reason_lines s (CaseEnd.Over v) (Some c) =
+    codes "  " ++ (decided_text s.names c ++ (codes "\n" ++ (s.waits ++ calls_text s.names (filter (λ e. not (is_parked e.reply)) (take c.before c.log)))))
+reason_lines s (CaseEnd.Aborted refused) cause = codes "  " ++ (refusal_text refused ++ codes "\n")
+reason_lines s ending cause = []
 
 -- a test case: its name, how it ended and why, and its components
 unfoldable pub shown_case : Summary → List ℕ
-shown_case s = codes "\n" ++ (s.name ++ (codes ": " ++ (end_word s.ending ++ (codes "\n" ++ (reason_lines s.ending s.cause ++ verdict_groups s.names s.locals)))))
+shown_case s = codes "\n" ++ (s.name ++ (codes ": " ++ (end_word s.ending ++ (codes "\n" ++ (reason_lines s s.ending s.cause ++ verdict_groups s.names.comps s.locals)))))
 
 -- the counts, and each test case that failed: that has a status other than 0
 abbrev pub summary_text : List Summary → List ℕ

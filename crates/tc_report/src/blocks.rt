@@ -2,8 +2,8 @@
 ghost use Rattle.std.specs.Prelude.{◌≡◌, ◌≤◌, ◌++◌, OnOk, IfErr, length, take};
 ghost use Rattle.std.specs.{Io.KnownBytes.Appends, List.flat_map};
 ghost use Rattle.tc_blocks.specs.declared.header.Kind.TheVariants.{Evidence, History2};
-ghost use Rattle.tc_blocks.specs.Prelude.{with_lf, header_text, line_text, naming_text};
-ghost use Rattle.tc_report.specs.{Blocks.blocks_text, Blocks.case_block, Blocks.finished_header, Blocks.name_lines, Inside.namings, Output.LeavesPrefix};
+ghost use Rattle.tc_blocks.specs.Prelude.{with_lf, line_text, naming_text};
+ghost use Rattle.tc_report.specs.{Blocks.block_names, Blocks.blocks_text, Blocks.case_block, Blocks.named_block, Inside.namings, Output.LeavesPrefix};
 
 use crate::fault::OutFault;
 use crate::output::write_made;
@@ -11,19 +11,7 @@ use crate::results::{Finished, Results};
 use std::alloc::Global;
 use std::io::Write;
 use tc_blocks::{Header, Kind, Line, append_end, append_entries, append_first_line, append_line};
-use tc_entry::{Name, NoMemory, Run};
-
-fn append_header(out: &mut Vec<u8>, kind: Kind, case: &Finished) -> Result<(), NoMemory>
-    ensures { OnOk result (out.new.items ≡ out.old.items
-        ++ with_lf (header_text (finished_header kind case.now))) }
-{
-    let header = Header {
-        kind,
-        name: case.name.copy(),
-        behaviours: case.report.behaviours,
-    };
-    append_first_line(out, &header)
-}
+use tc_entry::{Entry, Name, NoMemory, Run, Verdict};
 
 fn append_naming(out: &mut Vec<u8>, run: u16, name: &Name) -> Result<(), NoMemory>
     ensures { OnOk result (out.new.items ≡ out.old.items ++ with_lf (naming_text run name.now)) }
@@ -51,36 +39,61 @@ fn append_namings(out: &mut Vec<u8>, names: &[Name]) -> Result<(), NoMemory>
     Ok(())
 }
 
-// The names of the behaviours of a finished test case.
-fn names_of(case: &Finished) -> &[Name]
-    ensures names { result.now ≡ take case.now.report.behaviours case.now.names }
+/// The names of that many behaviours, for a block.
+pub fn first_names(names: &[Name], behaviours: u16) -> &[Name]
+    ensures names { result.now ≡ take behaviours names.now }
     ensures few { length result.now ≤ u16.MAX }
 {
-    let names = case.names.as_slice();
-    names
-        .get(..usize::from(case.report.behaviours))
-        .unwrap_or(names)
+    names.get(..usize::from(behaviours)).unwrap_or(names)
 }
 
-// Appends the names that are in the block of a finished test case.
-fn append_names(out: &mut Vec<u8>, kind: Kind, case: &Finished) -> Result<(), NoMemory>
-    ensures { OnOk result (out.new.items ≡ out.old.items
-        ++ flat_map (λ l. with_lf (line_text l)) (name_lines kind case.now)) }
+// The names of behaviours that are in the block of a finished test case.
+fn names_in_block(kind: Kind, case: &Finished) -> &[Name]
+    ensures names { result.now ≡ block_names kind case.now }
+    ensures few { length result.now ≤ u16.MAX }
 {
     match kind {
-        Kind::Evidence => append_namings(out, names_of(case)),
-        Kind::History1 | Kind::History2 => Ok(()),
+        Kind::Evidence => first_names(case.names.as_slice(), case.report.behaviours),
+        Kind::History1 | Kind::History2 => &[],
     }
+}
+
+/// Appends a block: its first line, the names of behaviours, that of run 0 first, the entries, and the verdict. If memory
+/// runs out, a part of it.
+pub fn append_named_block(
+    out: &mut Vec<u8>,
+    header: &Header,
+    names: &[Name],
+    history: &[Entry],
+    verdict: Verdict,
+) -> Result<(), NoMemory>
+    requires { length names.now ≤ u16.MAX }
+    ensures { OnOk result (out.new.items ≡ out.old.items ++ named_block header.now names.now history.now verdict) }
+{
+    append_first_line(out, header)?;
+    append_namings(out, names)?;
+    append_entries(out, history)?;
+    append_end(out, verdict)
 }
 
 /// Appends the block of a finished test case.
 pub(crate) fn append_block(out: &mut Vec<u8>, kind: Kind, case: &Finished) -> Result<(), NoMemory>
     ensures { OnOk result (out.new.items ≡ out.old.items ++ case_block kind case.now) }
 {
-    append_header(out, kind, case)?;
-    append_names(out, kind, case)?;
-    append_entries(out, case.report.history.as_slice())?;
-    append_end(out, case.report.verdict)
+    let report = &case.report;
+    let header = Header {
+        kind,
+        name: case.name.copy(),
+        behaviours: report.behaviours,
+    };
+    let names = names_in_block(kind, case);
+    append_named_block(
+        out,
+        &header,
+        names,
+        report.history.as_slice(),
+        report.verdict,
+    )
 }
 
 // Appends the block of each finished test case.

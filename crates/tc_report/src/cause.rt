@@ -1,16 +1,19 @@
 //! The call that decided the verdict of a test case, and its caller.
-ghost use Rattle.std.specs.Prelude.{◌≡◌, ◌<◌, ◌++◌, ◌∷◌, [], Some, IfOk, OnOk, codes, filter, length, reverse, slice_get};
-ghost use Rattle.std.specs.Option.{option_and_then, option_map, option_map_or};
-ghost use Rattle.tc_rules.specs.Prelude.{is_by, part, Comp as AnyComp, component_name as spec_name};
-ghost use Rattle.tc_report.specs.Report.{call_text};
+ghost use Rattle.std.specs.Prelude.{◌≡◌, ◌<◌, ◌==◌, ◌++◌, ◌∷◌, [], Some, IfOk, OnOk, codes, filter, if◌then◌else◌, length, slice_get};
+ghost use Rattle.std.specs.{List.flat_map, Option.option_map, Option.option_map_or};
+ghost use Rattle.tc_rules.specs.Prelude.{Comp as AnyComp, is_by, part};
+ghost use Rattle.tc_report.specs.InWords.{component_in};
 ghost use Rattle.tc_report.specs.Cause as spec;
 
-use crate::report::append_op;
+use crate::meaning::{append_meaning, started_before};
+use crate::naming::{Names, append_component_in, append_named_call, append_run_in};
 use crate::results::CaseEnd;
+use crate::said::{Remark, reasons};
 use std::alloc::Global;
-use tc_entry::{Comp, Entry, Name, NoMemory, Run, Sequence, Verdict};
-use tc_rules::{component_of, deciding_entry, name_of};
-use tc_text::{append_number, append_text, write_reply};
+use tc_blocks::Sentence;
+use tc_entry::{Comp, Entry, NoMemory, Run, Sequence, Verdict};
+use tc_rules::{component_of, deciding_entry};
+use tc_text::append_text;
 
 /// The call that decided the verdict of a test case, and its caller.
 #[derive(Drop)]
@@ -19,22 +22,14 @@ pub struct Cause {
     pub entry: Entry,
     /// The component that its run is on.
     pub comp: Option<Comp>,
-    /// The name of this component, if it has one.
-    pub name: Option<Name>,
     /// The entries of its run, the oldest first.
     pub log: Sequence<Entry>,
     /// How many of them come before the deciding one.
     pub before: usize,
-}
-
-// The name of a component, if there is one and it has one.
-fn name_on(history: &[Entry], comp: Option<Comp>) -> Option<Name>
-    ensures { result ≡ option_and_then (λ (c : AnyComp). spec_name (reverse history.now) c.0) comp }
-{
-    match comp {
-        Some(comp) => name_of(history, comp).map(Name::copy),
-        None => None,
-    }
+    /// What the run said right before and right after the deciding entry.
+    pub said: Sequence<Sentence>,
+    /// The run that the deciding entry was to start, if it got its error since the run was started before.
+    pub again: Option<Run>,
 }
 
 // Adds a copy of the entry if it is one of the run.
@@ -59,9 +54,9 @@ fn log_of(alloc: Global, history: &[Entry], run: Run) -> Result<Vec<Entry>, NoMe
     Ok(log)
 }
 
-// How many of these entries are of the run.
+/// How many of these entries are of the run.
 #[tactic(auto, unfolding(tc_rules::specs::Merge::part))]
-fn count_by(entries: &[Entry], run: Run) -> usize
+pub(crate) fn count_by(entries: &[Entry], run: Run) -> usize
     ensures { result ≡ length (part entries.now run.0) }
 {
     entries
@@ -70,120 +65,138 @@ fn count_by(entries: &[Entry], run: Run) -> usize
         .count()
 }
 
-// The entry at this place of the history, and its caller.
-fn cause_by(alloc: Global, history: &[Entry], at: usize, entry: &Entry) -> Result<Cause, NoMemory>
+// The entry at this place of the history with these remarks, and its caller.
+fn cause_by(
+    alloc: Global,
+    remarks: &[Remark],
+    history: &[Entry],
+    at: usize,
+    entry: &Entry,
+) -> Result<Cause, NoMemory>
     requires { at < length history.now }
-    ensures { IfOk result (λ cause. cause ≡ spec.cause_by history.now at entry.now) }
+    ensures { IfOk result (λ cause. cause ≡ spec.cause_by remarks.now history.now at entry.now) }
 {
     let log = log_of(alloc, history, entry.caller)?;
-    let comp = component_of(history, entry.caller);
+    let said = reasons(alloc, remarks, history, at, entry.caller)?;
     Ok(Cause {
         entry: entry.copy(),
-        comp,
-        name: name_on(history, comp),
+        comp: component_of(history, entry.caller),
         log: Sequence::new(log),
         before: count_by(&history[..at], entry.caller),
+        said: Sequence::new(said),
+        again: started_before(&history[..at], entry),
     })
 }
 
 // The entry at this place, and its caller.
-fn cause_at(alloc: Global, history: &[Entry], at: usize) -> Result<Cause, NoMemory>
+fn cause_at(
+    alloc: Global,
+    remarks: &[Remark],
+    history: &[Entry],
+    at: usize,
+) -> Result<Cause, NoMemory>
     requires { at < length history.now }
-    ensures { IfOk result (λ cause. Some cause ≡ option_map (spec.cause_by history.now at) (slice_get history.now at)) }
+    ensures { IfOk result (λ cause. Some cause
+        ≡ option_map (spec.cause_by remarks.now history.now at) (slice_get history.now at)) }
 {
-    cause_by(alloc, history, at, &history[at])
+    cause_by(alloc, remarks, history, at, &history[at])
 }
 
-// What decided the verdict of this history, if an entry did.
+// What decided the verdict of this history with these remarks, if an entry did.
 #[tactic(auto, unfolding(crate::specs::Cause::deciding_cause))]
-fn deciding_cause(alloc: Global, history: &[Entry]) -> Result<Option<Cause>, NoMemory>
-    ensures { IfOk result (λ cause. cause ≡ spec.deciding_cause history.now) }
+fn deciding_cause(
+    alloc: Global,
+    remarks: &[Remark],
+    history: &[Entry],
+) -> Result<Option<Cause>, NoMemory>
+    ensures { IfOk result (λ cause. cause ≡ spec.deciding_cause remarks.now history.now) }
 {
     match deciding_entry(history) {
-        Some(at) => Ok(Some(cause_at(alloc, history, at)?)),
+        Some(at) => Ok(Some(cause_at(alloc, remarks, history, at)?)),
         None => Ok(None),
     }
 }
 
-/// What decided the verdict of a test case with this history and this end, if the verdict is worse than pass.
-pub(crate) fn cause_of(
+/// What decided the verdict of a test case with this history, these remarks and this end, if the verdict is worse than pass.
+pub fn cause_of(
     alloc: Global,
     ending: CaseEnd,
+    remarks: &[Remark],
     history: &[Entry],
 ) -> Result<Option<Cause>, NoMemory>
-    ensures { IfOk result (λ cause. cause ≡ spec.cause_of ending history.now) }
+    ensures { IfOk result (λ cause. cause ≡ spec.cause_of ending remarks.now history.now) }
 {
     match ending {
         CaseEnd::Over(Verdict::Inconc | Verdict::Fail | Verdict::Error) => {
-            deciding_cause(alloc, history)
+            deciding_cause(alloc, remarks, history)
         }
         _ => Ok(None),
     }
 }
 
-// Appends a name after a space, if there is one.
-fn append_spaced(out: &mut Vec<u8>, name: &Option<Name>) -> Result<(), NoMemory>
-    ensures { OnOk result (out.new.items ≡ out.old.items ++ option_map_or (λ n. codes " " ++ n) name.now []) }
-{
-    match name {
-        None => Ok(()),
-        Some(name) => {
-            append_text(out, " ")?;
-            out.extend_from_slice(name.bytes())?;
-            Ok(())
-        }
-    }
-}
-
-/// Appends a component by its number, and its name if it has one.
-#[tactic(auto, unfolding(crate::specs::Cause::named_text))]
-pub(crate) fn append_named(
-    out: &mut Vec<u8>,
-    comp: usize,
-    name: &Option<Name>,
-) -> Result<(), NoMemory>
-    ensures { OnOk result (out.new.items ≡ out.old.items ++ spec.named_text name.now comp) }
-{
-    append_number(out, comp as u64)?;
-    append_spaced(out, name)
-}
-
 // Appends the component that a run is on.
-#[tactic(auto, unfolding(crate::specs::Cause::comp_text))]
-fn append_comp(out: &mut Vec<u8>, comp: Comp, name: &Option<Name>) -> Result<(), NoMemory>
-    ensures { OnOk result (out.new.items ≡ out.old.items ++ spec.comp_text name.now comp) }
+fn append_place(out: &mut Vec<u8>, names: &Names, comp: Comp) -> Result<(), NoMemory>
+    ensures { OnOk result (out.new.items ≡ out.old.items
+        ++ ((if comp.0 == 0 then codes " on " else codes " on component ") ++ component_in names.now comp.0)) }
 {
-    append_text(out, " on component ")?;
-    append_named(out, comp.0 as usize, name)
+    let words = if comp.0 == 0 {
+        " on "
+    } else {
+        " on component "
+    };
+    append_text(out, words)?;
+    append_component_in(out, names, comp)
 }
 
 // Appends the component that the run is on, if it is on one.
-fn append_on(out: &mut Vec<u8>, cause: &Cause) -> Result<(), NoMemory>
-    ensures { OnOk result (out.new.items ≡ out.old.items ++ option_map_or (spec.comp_text cause.now.name) cause.now.comp []) }
+fn append_on(out: &mut Vec<u8>, names: &Names, comp: Option<Comp>) -> Result<(), NoMemory>
+    ensures { OnOk result (out.new.items ≡ out.old.items ++ option_map_or (λ (k : AnyComp).
+        (if k.0 == 0 then codes " on " else codes " on component ") ++ component_in names.now k.0) comp []) }
 {
-    match cause.comp {
-        Some(comp) => append_comp(out, comp, &cause.name),
+    match comp {
+        Some(comp) => append_place(out, names, comp),
         None => Ok(()),
     }
 }
 
-// Appends a call, and its reply.
-fn append_call(out: &mut Vec<u8>, entry: &Entry) -> Result<(), NoMemory>
-    ensures { OnOk result (out.new.items ≡ out.old.items ++ call_text entry.now.op entry.now.reply) }
-{
-    append_op(out, &entry.op)?;
-    append_text(out, " -> ")?;
-    write_reply(out, &entry.reply)
-}
-
-/// Appends what decided the verdict: the run, its component, the call.
+// Appends the run that decided, its component, and the call.
 #[tactic(auto, unfolding(crate::specs::Cause::cause_text))]
-pub(crate) fn append_cause(out: &mut Vec<u8>, cause: &Cause) -> Result<(), NoMemory>
-    ensures { OnOk result (out.new.items ≡ out.old.items ++ spec.cause_text cause.now) }
+fn append_cause(out: &mut Vec<u8>, names: &Names, cause: &Cause) -> Result<(), NoMemory>
+    ensures { OnOk result (out.new.items ≡ out.old.items ++ spec.cause_text names.now cause.now) }
 {
     append_text(out, "run ")?;
-    append_number(out, u64::from(cause.entry.caller.0))?;
-    append_on(out, cause)?;
+    append_run_in(out, names, cause.entry.caller)?;
+    append_on(out, names, cause.comp)?;
     append_text(out, ": ")?;
-    append_call(out, &cause.entry)
+    append_named_call(out, names, &cause.entry.op, cause.entry.reply)
+}
+
+// Appends what was said.
+fn append_reason(out: &mut Vec<u8>, said: &Sentence) -> Result<(), NoMemory>
+    ensures { OnOk result (out.new.items ≡ out.old.items ++ (codes ": \"" ++ (said.now ++ codes "\""))) }
+{
+    append_text(out, ": \"")?;
+    out.extend_from_slice(said.bytes())?;
+    append_text(out, "\"")
+}
+
+// Appends what was said right before and right after the entry that decided.
+fn append_reasons(out: &mut Vec<u8>, said: &[Sentence]) -> Result<(), NoMemory>
+    ensures { OnOk result (out.new.items ≡ out.old.items
+        ++ flat_map (λ s. codes ": \"" ++ (s ++ codes "\"")) said.now) }
+{
+    for sentence in said {
+        append_reason(out, sentence)?;
+    }
+    Ok(())
+}
+
+/// Appends what decided the verdict: the run, its component, the call, what its error means, and what the run said of it.
+/// If memory runs out, a part of it.
+pub fn append_decision(out: &mut Vec<u8>, names: &Names, cause: &Cause) -> Result<(), NoMemory>
+    ensures { OnOk result (out.new.items ≡ out.old.items ++ spec.decided_text names.now cause.now) }
+{
+    append_cause(out, names, cause)?;
+    append_meaning(out, names, cause.again, cause.entry.reply)?;
+    append_reasons(out, cause.said.as_slice())
 }

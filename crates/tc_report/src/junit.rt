@@ -1,17 +1,22 @@
 //! The JUnit report.
-ghost use Rattle.std.specs.Prelude.{◌≡◌, ◌==◌, ◌++◌, codes, filter, length, unwrap_or, IfOk, IfErr, OnOk, Some};
-ghost use Rattle.std.specs.{Io.KnownBytes.Appends, List.flat_map};
-ghost use Rattle.tc_rules.specs.Prelude.{level_of};
-ghost use Rattle.tc_report.specs.{Output.LeavesPrefix, Status.counted_as as spec_counted, Status.verdict_status as spec_status, Summary.results_summaries, declared.summary.Summary.Summary as AnySummary};
+ghost use Rattle.std.specs.Prelude.{◌≡◌, ◌==◌, ◌++◌, codes, filter, length, slice_get, unwrap_or, IfOk, IfErr, OnOk};
+ghost use Rattle.std.specs.{Io.KnownBytes.Appends, List.flat_map, Option.option_and_then};
+ghost use Rattle.tc_rules.specs.Prelude.{level_of, name_of as spec_name};
+ghost use Rattle.tc_report.specs.{Cause.decided_text, Output.LeavesPrefix, Status.counted_as as spec_counted, Status.verdict_status as spec_status, declared.summary.Summary.Summary as AnySummary};
 ghost use Rattle.tc_report.specs.Junit as spec;
 
-use crate::cause::{Cause, append_cause};
+use crate::cause::{Cause, append_decision};
 use crate::fault::OutFault;
+use crate::naming::{Names, append_named_entries};
 use crate::output::write_made;
-use crate::report::{append_entries, append_locals};
-use crate::results::{CaseEnd, Results};
+use crate::progress::append_time;
+use crate::results::CaseEnd;
 use crate::status::{counted_as, verdict_status};
-use crate::summary::{Summary, summaries_of_results};
+use crate::stopwatch::Times;
+use crate::summary::Summary;
+use crate::summary_text::append_locals;
+use jiff_core::civil::DateTime;
+use jiff_fmt::temporal::DateTimePrinter;
 use std::alloc::Global;
 use std::io::Write;
 use tc_entry::{Name, NoMemory, Verdict};
@@ -62,7 +67,31 @@ fn append_counts(out: &mut Vec<u8>, cases: &[Summary]) -> Result<(), NoMemory>
 {
     append_attribute(out, " tests=\"", cases.len())?;
     append_attribute(out, " failures=\"", with_status(cases, 1))?;
-    append_attribute(out, " errors=\"", with_status(cases, 2))
+    append_attribute(out, " errors=\"", with_status(cases, 2))?;
+    append_attribute(out, " skipped=\"", with_verdict(cases, Verdict::None))
+}
+
+// Appends an attribute that is a text.
+#[tactic(auto, unfolding(crate::specs::Junit::attribute_text))]
+fn append_text_attribute(out: &mut Vec<u8>, name: &str, text: &[u8]) -> Result<(), NoMemory>
+    ensures { OnOk result (out.new.items ≡ out.old.items ++ spec.attribute_text name.now text.now) }
+{
+    append_text(out, name)?;
+    out.extend_from_slice(text)?;
+    append_text(out, "\"")
+}
+
+// Appends when a run began, as an attribute, if it is known: a second, as ISO 8601 has it.
+fn append_stamp(out: &mut Vec<u8>, begun: Option<DateTime>) -> Result<(), NoMemory>
+    ensures { OnOk result (out.new.items ≡ out.old.items ++ spec.stamp_attribute begun) }
+{
+    let Some(second) = begun else {
+        return Ok(());
+    };
+    let text = DateTimePrinter::new()
+        .precision(Some(0))
+        .datetime_text(second);
+    append_text_attribute(out, " timestamp=\"", text.as_str().as_bytes())
 }
 
 // The name of the suite, by the one that was given.
@@ -75,29 +104,39 @@ fn suite_name(suite: &Option<Name>) -> &[u8]
     }
 }
 
-// Appends the first tag of the suite, without its counts.
-#[tactic(auto, unfolding(crate::specs::Junit::suite_tag))]
-fn append_suite_tag(out: &mut Vec<u8>, suite: &[u8]) -> Result<(), NoMemory>
-    ensures { OnOk result (out.new.items ≡ out.old.items ++ spec.suite_tag suite.now) }
+// Appends the attributes of the suite after its name.
+#[tactic(auto, unfolding(crate::specs::Junit::suite_attributes))]
+fn append_suite_attributes(
+    alloc: Global,
+    out: &mut Vec<u8>,
+    times: &Times,
+    cases: &[Summary],
+) -> Result<(), NoMemory>
+    ensures { OnOk result (out.new.items ≡ out.old.items ++ spec.suite_attributes times.now cases.now) }
 {
-    append_text(out, ">\n<testsuite name=\"")?;
-    out.extend_from_slice(suite)?;
-    append_text(out, "\"")
+    append_counts(out, cases)?;
+    append_stamp(out, times.begun)?;
+    append_time(alloc, out, " time=\"", times.whole, "\"")
 }
 
-// Appends the first tags; that of the suite also counts the test cases that are skipped.
+// Appends the first tags.
 #[tactic(auto, unfolding(crate::specs::Junit::head_text))]
-fn append_head(out: &mut Vec<u8>, suite: &[u8], cases: &[Summary]) -> Result<(), NoMemory>
-    ensures { OnOk result (out.new.items ≡ out.old.items ++ spec.head_text suite.now cases.now) }
+fn append_head(
+    alloc: Global,
+    out: &mut Vec<u8>,
+    suite: &[u8],
+    times: &Times,
+    cases: &[Summary],
+) -> Result<(), NoMemory>
+    ensures { OnOk result (out.new.items ≡ out.old.items ++ spec.head_text suite.now times.now cases.now) }
 {
     append_text(
         out,
         "<?xml version=\"1.0\" encoding=\"UTF-8\"?>\n<testsuites",
     )?;
     append_counts(out, cases)?;
-    append_suite_tag(out, suite)?;
-    append_counts(out, cases)?;
-    append_attribute(out, " skipped=\"", with_verdict(cases, Verdict::None))
+    append_text_attribute(out, ">\n<testsuite name=\"", suite)?;
+    append_suite_attributes(alloc, out, times, cases)
 }
 
 // Appends the program's version.
@@ -105,78 +144,143 @@ fn append_head(out: &mut Vec<u8>, suite: &[u8], cases: &[Summary]) -> Result<(),
 fn append_version(out: &mut Vec<u8>, version: &str) -> Result<(), NoMemory>
     ensures { OnOk result (out.new.items ≡ out.old.items ++ spec.version_text version.now) }
 {
-    append_text(out, ">\n<properties>\n<property name=\"version\" value=\"")?;
-    append_text(out, version)?;
-    append_text(out, "\"/>\n</properties>\n")
+    let first = ">\n<properties>\n<property name=\"version\" value=\"";
+    append_text_attribute(out, first, version.as_bytes())?;
+    append_text(out, "/>\n</properties>\n")
+}
+
+// Appends a byte as XML has it.
+fn append_byte(out: &mut Vec<u8>, byte: u8) -> Result<(), NoMemory>
+    ensures { OnOk result (out.new.items ≡ out.old.items ++ spec.escaped_byte byte) }
+{
+    match byte {
+        b'"' => append_text(out, "&quot;"),
+        b'&' => append_text(out, "&amp;"),
+        b'<' => append_text(out, "&lt;"),
+        b']' => append_text(out, "&#93;"),
+        _ => {
+            out.push(byte)?;
+            Ok(())
+        }
+    }
+}
+
+// Appends bytes as XML has them.
+fn append_escaped(out: &mut Vec<u8>, bytes: &[u8]) -> Result<(), NoMemory>
+    ensures { OnOk result (out.new.items ≡ out.old.items ++ flat_map spec.escaped_byte bytes.now) }
+{
+    for byte in bytes {
+        append_byte(out, *byte)?;
+    }
+    Ok(())
+}
+
+// What decided the verdict, as XML has it.
+fn escaped_decision(alloc: Global, names: &Names, cause: &Cause) -> Result<Vec<u8>, NoMemory>
+    ensures { IfOk result (λ v. v.items ≡ flat_map spec.escaped_byte (decided_text names.now cause.now)) }
+{
+    let mut plain = Vec::new(alloc);
+    append_decision(&mut plain, names, cause)?;
+    let mut escaped = Vec::new(alloc);
+    append_escaped(&mut escaped, plain.as_slice())?;
+    Ok(escaped)
+}
+
+// Appends what decided the verdict, who waits for whom, and the calls of the run.
+#[tactic(auto, unfolding(crate::specs::Junit::cause_element))]
+fn append_cause_element(
+    alloc: Global,
+    out: &mut Vec<u8>,
+    case: &Summary,
+    cause: &Cause,
+) -> Result<(), NoMemory>
+    ensures { OnOk result (out.new.items ≡ out.old.items ++ spec.cause_element case.now cause.now) }
+{
+    let decision = escaped_decision(alloc, &case.names, cause)?;
+    out.extend_from_slice(decision.as_slice())?;
+    append_text(out, "\">\n")?;
+    out.extend_from_slice(decision.as_slice())?;
+    append_text(out, "\n")?;
+    out.extend_from_slice(case.waits.as_slice())?;
+    append_named_entries(out, "  ", &case.names, cause.log.as_slice())
+}
+
+// Appends the name of a verdict that nothing decided.
+fn append_undecided(out: &mut Vec<u8>, verdict: Verdict) -> Result<(), NoMemory>
+    ensures { OnOk result (out.new.items ≡ out.old.items ++ (codes "verdict " ++ (spec_name verdict ++ codes "\">\n"))) }
+{
+    append_text(out, "verdict ")?;
+    append_text(out, name_of(verdict))?;
+    append_text(out, "\">\n")
+}
+
+// Appends what decided the verdict, or its name.
+fn append_why(
+    alloc: Global,
+    out: &mut Vec<u8>,
+    case: &Summary,
+    verdict: Verdict,
+) -> Result<(), NoMemory>
+    ensures { OnOk result (out.new.items ≡ out.old.items ++ spec.why_element case.now verdict) }
+{
+    match &case.cause {
+        Some(cause) => append_cause_element(alloc, out, case, cause),
+        None => append_undecided(out, verdict),
+    }
 }
 
 // Appends the element of a verdict that is worse than pass, between its first text and its last tag.
 #[tactic(auto, unfolding(crate::specs::Junit::verdict_element))]
 fn append_verdict_element(
+    alloc: Global,
     out: &mut Vec<u8>,
+    case: &Summary,
     first: &str,
     verdict: Verdict,
-    cause: &Option<Cause>,
     last: &str,
 ) -> Result<(), NoMemory>
-    ensures { OnOk result (out.new.items ≡ out.old.items ++ spec.verdict_element first.now verdict cause.now last.now) }
+    ensures { OnOk result (out.new.items ≡ out.old.items ++ spec.verdict_element case.now first.now verdict last.now) }
 {
     append_text(out, first)?;
-    match cause {
-        Some(cause) => {
-            append_cause(out, cause)?;
-            append_text(out, "\">\n")?;
-            append_cause(out, cause)?;
-            append_text(out, "\n")?;
-            append_entries(out, cause.log.as_slice())?;
-        }
-        None => {
-            append_text(out, "verdict ")?;
-            append_text(out, name_of(verdict))?;
-            append_text(out, "\">\n")?;
-        }
-    }
+    append_why(alloc, out, case, verdict)?;
     append_text(out, last)
 }
 
 // Appends what is said of an overall verdict.
 #[tactic(auto, unfolding(crate::specs::Junit::end_element))]
 fn append_verdict_end(
+    alloc: Global,
     out: &mut Vec<u8>,
+    case: &Summary,
     verdict: Verdict,
-    cause: &Option<Cause>,
 ) -> Result<(), NoMemory>
-    ensures { OnOk result (out.new.items ≡ out.old.items ++ spec.end_element (CaseEnd.Over verdict) cause.now) }
+    ensures { OnOk result (out.new.items ≡ out.old.items ++ spec.end_element case.now (CaseEnd.Over verdict)) }
 {
     match verdict {
         Verdict::None => append_text(out, "<skipped/>\n"),
         Verdict::Pass => Ok(()),
         Verdict::Inconc => {
             let first = "<failure type=\"inconc\" message=\"";
-            append_verdict_element(out, first, verdict, cause, "</failure>\n")
+            append_verdict_element(alloc, out, case, first, verdict, "</failure>\n")
         }
         Verdict::Fail => {
             let first = "<failure type=\"fail\" message=\"";
-            append_verdict_element(out, first, verdict, cause, "</failure>\n")
+            append_verdict_element(alloc, out, case, first, verdict, "</failure>\n")
         }
         Verdict::Error => {
             let first = "<error type=\"error\" message=\"";
-            append_verdict_element(out, first, verdict, cause, "</error>\n")
+            append_verdict_element(alloc, out, case, first, verdict, "</error>\n")
         }
     }
 }
 
 // Appends what is said of the end of a test case.
 #[tactic(auto, unfolding(crate::specs::Junit::end_element))]
-fn append_end_element(
-    out: &mut Vec<u8>,
-    ending: CaseEnd,
-    cause: &Option<Cause>,
-) -> Result<(), NoMemory>
-    ensures { OnOk result (out.new.items ≡ out.old.items ++ spec.end_element ending cause.now) }
+fn append_end_element(alloc: Global, out: &mut Vec<u8>, case: &Summary) -> Result<(), NoMemory>
+    ensures { OnOk result (out.new.items ≡ out.old.items ++ spec.end_element case.now case.now.ending) }
 {
-    match ending {
-        CaseEnd::Over(verdict) => append_verdict_end(out, verdict, cause),
+    match case.ending {
+        CaseEnd::Over(verdict) => append_verdict_end(alloc, out, case, verdict),
         CaseEnd::Unfinished => append_text(
             out,
             "<error type=\"unfinished\" message=\"the test case is not over\"/>\n",
@@ -194,93 +298,121 @@ fn append_end_element(
     }
 }
 
-// Appends the first tag of a test case.
+// Appends the first tag of a test case, without its time.
 #[tactic(auto, unfolding(crate::specs::Junit::name_tag))]
 fn append_name_tag(out: &mut Vec<u8>, suite: &[u8], name: &Name) -> Result<(), NoMemory>
     ensures { OnOk result (out.new.items ≡ out.old.items ++ spec.name_tag suite.now name.now) }
 {
-    append_text(out, "<testcase name=\"")?;
-    out.extend_from_slice(name.bytes())?;
-    append_text(out, "\" classname=\"")?;
-    out.extend_from_slice(suite)?;
-    append_text(out, "\">\n")
+    append_text_attribute(out, "<testcase name=\"", name.bytes())?;
+    append_text_attribute(out, " classname=\"", suite)
 }
 
-// Appends the local verdicts, and the last tag of a test case.
+// Appends the components by their local verdicts, and the last tag of a test case.
 #[tactic(auto, unfolding(crate::specs::Junit::locals_element))]
-fn append_locals_element(out: &mut Vec<u8>, locals: &[Verdict]) -> Result<(), NoMemory>
-    ensures { OnOk result (out.new.items ≡ out.old.items ++ spec.locals_element locals.now) }
+fn append_locals_element(
+    alloc: Global,
+    out: &mut Vec<u8>,
+    names: &[Option<Name>],
+    locals: &[Verdict],
+) -> Result<(), NoMemory>
+    ensures { OnOk result (out.new.items ≡ out.old.items ++ spec.locals_element names.now locals.now) }
 {
     append_text(out, "<system-out>\n")?;
-    append_locals(out, locals)?;
+    append_locals(alloc, out, names, locals)?;
     append_text(out, "</system-out>\n</testcase>\n")
 }
 
 // Appends a test case of the suite.
-fn append_element(out: &mut Vec<u8>, suite: &[u8], case: &Summary) -> Result<(), NoMemory>
-    ensures { OnOk result (out.new.items ≡ out.old.items ++ spec.case_element suite.now case.now) }
+fn append_element(
+    alloc: Global,
+    out: &mut Vec<u8>,
+    suite: &[u8],
+    time: Option<(u64, u32)>,
+    case: &Summary,
+) -> Result<(), NoMemory>
+    ensures { OnOk result (out.new.items ≡ out.old.items ++ spec.case_element suite.now time case.now) }
 {
     append_name_tag(out, suite, &case.name)?;
-    append_end_element(out, case.ending, &case.cause)?;
-    append_locals_element(out, case.locals.as_slice())
+    append_time(alloc, out, " time=\"", time, "\"")?;
+    append_text(out, ">\n")?;
+    append_end_element(alloc, out, case)?;
+    let comps = case.names.comps.as_slice();
+    append_locals_element(alloc, out, comps, case.locals.as_slice())
 }
 
-// Appends each test case of the suite.
-fn append_elements(out: &mut Vec<u8>, suite: &[u8], cases: &[Summary]) -> Result<(), NoMemory>
-    ensures { OnOk result (out.new.items ≡ out.old.items ++ flat_map (spec.case_element suite.now) cases.now) }
+// The time at this place, if it is known.
+fn time_at(times: &[Option<(u64, u32)>], place: usize) -> Option<(u64, u32)>
+    ensures { result ≡ option_and_then (λ t. t) (slice_get times.now place) }
 {
-    for case in cases {
-        append_element(out, suite, case)?;
+    match times.get(place) {
+        Some(time) => *time,
+        None => None,
+    }
+}
+
+// Appends each test case of the suite, with its time.
+fn append_elements(
+    alloc: Global,
+    out: &mut Vec<u8>,
+    suite: &[u8],
+    times: &[Option<(u64, u32)>],
+    cases: &[Summary],
+) -> Result<(), NoMemory>
+    ensures { OnOk result (out.new.items ≡ out.old.items ++ spec.case_elements suite.now times.now cases.now) }
+{
+    for (at, case) in cases.iter().enumerate() {
+        append_element(alloc, out, suite, time_at(times, at), case)?;
     }
     Ok(())
 }
 
 // Appends the report, whose suite has this name.
 fn append_suite(
+    alloc: Global,
     out: &mut Vec<u8>,
     version: &str,
     suite: &[u8],
+    times: &Times,
     cases: &[Summary],
 ) -> Result<(), NoMemory>
-    ensures { OnOk result (out.new.items ≡ out.old.items ++ spec.junit_of version.now (Some suite.now) cases.now) }
+    ensures { OnOk result (out.new.items ≡ out.old.items ++ spec.junit_of version.now (Some suite.now) times.now cases.now) }
 {
-    append_head(out, suite, cases)?;
+    append_head(alloc, out, suite, times, cases)?;
     append_version(out, version)?;
-    append_elements(out, suite, cases)?;
+    append_elements(alloc, out, suite, times.cases.as_slice(), cases)?;
     append_text(out, "</testsuite>\n</testsuites>\n")
 }
 
-/// The JUnit report of these test cases, by a program of this version: one suite with its counts, and an element for each
-/// test case. The suite is called `ttrun` if no name is given.
+/// The JUnit report of these test cases with these times, by a program of this version: one suite with its counts, and an
+/// element for each test case. The suite is called `ttrun` if no name is given.
 pub fn junit_report(
     alloc: Global,
     version: &str,
     suite: &Option<Name>,
+    times: &Times,
     cases: &[Summary],
 ) -> Result<Vec<u8>, NoMemory>
-    ensures { IfOk result (λ v. v.items ≡ spec.junit_of version.now suite.now cases.now) }
+    ensures { IfOk result (λ v. v.items ≡ spec.junit_of version.now suite.now times.now cases.now) }
 {
     let mut out = Vec::new(alloc);
-    append_suite(&mut out, version, suite_name(suite), cases)?;
+    append_suite(alloc, &mut out, version, suite_name(suite), times, cases)?;
     Ok(out)
 }
 
-/// Writes the JUnit report of the results of a campaign of test cases with these names: each finished test case, the one
-/// that has no report, and those after them, which are skipped. The text is made whole before anything is written.
+/// Writes that report. The text is made whole before anything is written.
 pub fn write_junit<W: Write>(
     alloc: Global,
     version: &str,
     suite: &Option<Name>,
-    names: &[Name],
-    results: &Results,
+    times: &Times,
+    cases: &[Summary],
     writer: &mut W,
 ) -> Result<(), OutFault>
     ensures all { OnOk result (Appends (W.contents writer.old) (W.contents writer.new)
-        (spec.junit_of version.now suite.now (results_summaries names.now results.now))) }
+        (spec.junit_of version.now suite.now times.now cases.now)) }
     ensures part { IfErr result (LeavesPrefix (W.contents writer.old) (W.contents writer.new)
-        (spec.junit_of version.now suite.now (results_summaries names.now results.now))) }
+        (spec.junit_of version.now suite.now times.now cases.now)) }
 {
-    let cases = summaries_of_results(alloc, names, results)?;
-    let text = junit_report(alloc, version, suite, cases.as_slice())?;
+    let text = junit_report(alloc, version, suite, times, cases)?;
     write_made(writer, text.as_slice())
 }

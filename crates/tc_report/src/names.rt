@@ -1,13 +1,13 @@
-//! The names of the components of a test case.
-ghost use Rattle.std.specs.Prelude.{◌≡◌, ◌++◌, IfOk, OnOk};
+//! The names that reports say of a test case.
+ghost use Rattle.std.specs.Prelude.{◌≡◌, ◌++◌, [], IfOk, OnOk};
 ghost use Rattle.std.specs.List.{flat_map};
 ghost use Rattle.tc_rules.specs.Prelude.{name_in as spec_name};
 ghost use Rattle.tc_report.specs.Inside.{made_name};
 ghost use Rattle.tc_report.specs.Summary as spec;
 
-use crate::results::CaseEnd;
+use crate::naming::{Names, Naming};
 use std::alloc::Global;
-use tc_entry::{Entry, Name, NoMemory, Op, Verdict};
+use tc_entry::{Entry, Name, NoMemory, Op, Sequence};
 use tc_rules::created;
 
 // The name that an operation gives.
@@ -42,7 +42,7 @@ fn add_all_made(names: &mut Vec<Option<Name>>, history: &[Entry]) -> Result<(), 
 
 // The names of the components of this history, in one pass.
 fn comp_names(alloc: Global, history: &[Entry]) -> Result<Vec<Option<Name>>, NoMemory>
-    ensures { IfOk result (λ v. v.items ≡ spec.comp_names history.now) }
+    ensures { IfOk result (λ v. v.items ≡ (spec.names_in history.now []).comps) }
 {
     let mut names = Vec::new(alloc);
     names.push(None)?;
@@ -50,17 +50,23 @@ fn comp_names(alloc: Global, history: &[Entry]) -> Result<Vec<Option<Name>>, NoM
     Ok(names)
 }
 
-/// The names of the components of a test case with this history and this end, if it is not over or its verdict is worse
-/// than pass.
-pub(crate) fn names_of(
-    alloc: Global,
-    ending: CaseEnd,
-    history: &[Entry],
-) -> Result<Vec<Option<Name>>, NoMemory>
-    ensures { IfOk result (λ v. v.items ≡ spec.names_of ending history.now) }
+/// The names that the components of this history have, and these of its behaviours.
+pub fn names_in(alloc: Global, history: &[Entry], runs: Vec<Naming>) -> Result<Names, NoMemory>
+    ensures { IfOk result (λ names. names ≡ spec.names_in history.now runs.items) }
 {
-    match ending {
-        CaseEnd::Over(Verdict::None | Verdict::Pass) => Ok(Vec::new(alloc)),
-        _ => comp_names(alloc, history),
+    let comps = comp_names(alloc, history)?;
+    Ok(Names {
+        comps: Sequence::new(comps),
+        runs: Sequence::new(runs),
+    })
+}
+
+/// No names.
+pub fn no_names(alloc: Global) -> Names
+    ensures { result ≡ spec.no_names }
+{
+    Names {
+        comps: Sequence::new(Vec::new(alloc)),
+        runs: Sequence::new(Vec::new(alloc)),
     }
 }

@@ -3,18 +3,22 @@ ghost use Rattle.std.specs.Prelude.{ℕ, List, Option, ◌≡◌, ◌+◌, ◌++
 ghost use Rattle.std.specs.{Fmt.decimal, Io.KnownBytes.Appends, Option.option_map_or};
 ghost use Rattle.tc_rules.specs.Prelude.{name_of as spec_name};
 ghost use Rattle.tc_stream.specs.Prelude.{AppendsPrefix};
-ghost use Rattle.tc_report.specs.{Cause.cause_text, Inside.OnlyPrints, Inside.failed_by, Inside.rest_by, Progress.HasTold, Progress.IsToldBy, Progress.TellsProgress, Progress.begun_line, Progress.failed_lines, Progress.finished_line, Progress.case_place, Progress.time_text, declared.cause.Cause.Cause as AnyCause};
+ghost use Rattle.tc_report.specs.{Cause.decided_text, Inside.IsOneMore, Inside.OnlyPrints, Inside.again_by, Inside.line_by_place, Inside.rest_by, Observers.KeepsTimes, Progress.HasTold, Progress.IsToldBy, Progress.TellsProgress, Progress.again_lines, Progress.begun_text, Progress.case_place, Progress.finished_text, Progress.last_line, Progress.seconds_text, Progress.time_text, Progress.after_verdict, Progress.whole_time, declared.cause.Cause.Cause as AnyCause};
 
-use crate::cause::{Cause, append_cause, cause_of};
+use crate::cause::{Cause, append_decision};
+use crate::counts::{tally_cases, with_case};
 use crate::fault::OutFault;
+use crate::naming::Names;
 use crate::observer::Observer;
 use crate::output::print;
-use crate::results::{CaseEnd, Finished};
+use crate::results::{Finished, Tally};
 use crate::status::verdict_status;
 use crate::stopping::is_met;
+use crate::stopwatch::Stopwatch;
+use crate::summary::summary_of_case;
 use std::alloc::Global;
 use std::io::Write;
-use std::time::{Clock, Instant};
+use std::time::Clock;
 use tc_entry::{Name, NoMemory, Verdict};
 use tc_text::{append_number, append_text};
 use tc_verdict::name as name_of;
@@ -40,16 +44,25 @@ fn append_begun(out: &mut Vec<u8>, name: &Name) -> Result<(), NoMemory>
     append_text(out, " ..\n")
 }
 
-// Appends the line of the test case in this place as it begins, if there is one.
-fn append_begun_line(out: &mut Vec<u8>, names: &[Name], at: usize) -> Result<(), NoMemory>
-    ensures { OnOk result (out.new.items ≡ out.old.items ++ begun_line names.now at) }
+/// Which lines are printed.
+#[derive(Clone, Copy)]
+pub struct Shown<'a> {
+    /// The names of the test cases that are run, in their order.
+    pub names: &'a [Name],
+    /// Whether only those are reported that have failed, with inconc, fail or error.
+    pub only: bool,
+}
+
+// Appends the line of the test case in this place as it begins, if there is one and it is printed.
+fn append_begun_line(out: &mut Vec<u8>, shown: Shown<'_>, at: usize) -> Result<(), NoMemory>
+    ensures { OnOk result (out.new.items ≡ out.old.items ++ begun_text (shown.entry.only, shown.entry.names.now) at) }
 {
-    match names.get(at) {
-        Some(name) => {
-            append_place(out, at, names)?;
+    match shown.names.get(at) {
+        Some(name) if !shown.only => {
+            append_place(out, at, shown.names)?;
             append_begun(out, name)
         }
-        None => Ok(()),
+        _ => Ok(()),
     }
 }
 
@@ -68,30 +81,59 @@ fn append_thousandths(alloc: Global, out: &mut Vec<u8>, count: u32) -> Result<()
     }
 }
 
-// Appends how long it took, if a clock said it: seconds, to a thousandth.
-fn append_time(alloc: Global, out: &mut Vec<u8>, time: Option<(u64, u32)>) -> Result<(), NoMemory>
-    ensures { OnOk result (out.new.items ≡ out.old.items ++ time_text time) }
+// Appends a time: seconds, to a thousandth.
+fn append_seconds(alloc: Global, out: &mut Vec<u8>, time: (u64, u32)) -> Result<(), NoMemory>
+    ensures { OnOk result (out.new.items ≡ out.old.items ++ seconds_text time) }
 {
-    let Some((seconds, thousandths)) = time else {
-        return Ok(());
-    };
-    append_text(out, " ")?;
-    append_number(out, seconds)?;
+    append_number(out, time.0)?;
     append_text(out, ".")?;
-    append_thousandths(alloc, out, thousandths)?;
-    append_text(out, " s")
+    append_thousandths(alloc, out, time.1)
 }
 
-// Appends what decided the verdict, if it is one worse than pass, and LF.
-fn append_why(out: &mut Vec<u8>, cause: &Option<Cause>) -> Result<(), NoMemory>
-    ensures { OnOk result (out.new.items ≡ out.old.items
-        ++ (option_map_or (λ (c : AnyCause). codes ": " ++ cause_text c) cause.now [] ++ codes "\n")) }
+/// Appends how long something took, between these texts, if a clock said it.
+pub(crate) fn append_time(
+    alloc: Global,
+    out: &mut Vec<u8>,
+    first: &str,
+    time: Option<(u64, u32)>,
+    last: &str,
+) -> Result<(), NoMemory>
+    ensures { OnOk result (out.new.items ≡ out.old.items ++ time_text first.now time last.now) }
 {
-    if let Some(cause) = cause {
-        append_text(out, ": ")?;
-        append_cause(out, cause)?;
+    let Some(time) = time else {
+        return Ok(());
+    };
+    append_text(out, first)?;
+    append_seconds(alloc, out, time)?;
+    append_text(out, last)
+}
+
+// Appends what decided a verdict after a colon, if something did.
+fn append_if_decided(
+    out: &mut Vec<u8>,
+    names: &Names,
+    cause: &Option<Cause>,
+) -> Result<(), NoMemory>
+    ensures { OnOk result (out.new.items ≡ out.old.items
+        ++ option_map_or (λ (c : AnyCause). codes ": " ++ decided_text names.now c) cause.now []) }
+{
+    match cause {
+        Some(cause) => {
+            append_text(out, ": ")?;
+            append_decision(out, names, cause)
+        }
+        None => Ok(()),
     }
-    append_text(out, "\n")
+}
+
+// What decided the verdict of the test case, if it is one worse than pass.
+fn why(alloc: Global, case: &Finished) -> Result<Vec<u8>, NoMemory>
+    ensures { IfOk result (λ v. v.items ≡ after_verdict case.now) }
+{
+    let summary = summary_of_case(alloc, case)?;
+    let mut text = Vec::new(alloc);
+    append_if_decided(&mut text, &summary.names, &summary.cause)?;
+    Ok(text)
 }
 
 // Appends the name and the verdict of the test case.
@@ -105,52 +147,95 @@ fn append_told(out: &mut Vec<u8>, case: &Finished) -> Result<(), NoMemory>
     append_text(out, name_of(case.report.verdict))
 }
 
-// Appends the line of the test case, of which this decided the verdict, after its front.
+// Appends the line of the test case, with this reason, after its front.
 fn append_line(
     alloc: Global,
     out: &mut Vec<u8>,
     case: &Finished,
     time: Option<(u64, u32)>,
-    cause: &Option<Cause>,
+    why: &[u8],
 ) -> Result<(), NoMemory>
-    ensures { OnOk result (out.new.items ≡ out.old.items ++ rest_by cause.now time case.now) }
+    ensures { OnOk result (out.new.items ≡ out.old.items ++ rest_by why.now time case.now) }
 {
     append_told(out, case)?;
-    append_time(alloc, out, time)?;
-    append_why(out, cause)
+    append_time(alloc, out, " ", time, " s")?;
+    out.extend_from_slice(why)?;
+    append_text(out, "\n")
 }
 
-// Appends the line that names the test case again, if it has failed.
+// Appends the line that names the test case again, if it has failed and not only failures are printed.
 fn append_failed(
     alloc: Global,
     out: &mut Vec<u8>,
     case: &Finished,
-    cause: &Option<Cause>,
+    only: bool,
+    why: &[u8],
 ) -> Result<(), NoMemory>
-    ensures { OnOk result (out.new.items ≡ out.old.items ++ failed_by cause.now case.now) }
+    ensures { OnOk result (out.new.items ≡ out.old.items ++ again_by only why.now case.now) }
 {
-    if verdict_status(case.report.verdict) == 0 {
+    if only || verdict_status(case.report.verdict) == 0 {
         return Ok(());
     }
     append_text(out, "failed:")?;
-    append_line(alloc, out, case, None, cause)
+    append_line(alloc, out, case, None, why)
+}
+
+// Appends the sum. A number that the machine lacks is more than there is memory for.
+fn append_sum(out: &mut Vec<u8>, first: usize, second: usize) -> Result<(), NoMemory>
+    ensures { OnOk result (out.new.items ≡ out.old.items ++ decimal (first + second)) }
+{
+    match first.checked_add(second) {
+        Some(sum) => append_number(out, sum as u64),
+        None => Err(NoMemory),
+    }
+}
+
+// Appends how long all took, if a clock said it: seconds, to a tenth.
+fn append_whole_time(out: &mut Vec<u8>, time: Option<(u64, u32)>) -> Result<(), NoMemory>
+    ensures { OnOk result (out.new.items ≡ out.old.items ++ whole_time time) }
+{
+    let Some((seconds, thousandths)) = time else {
+        return Ok(());
+    };
+    append_text(out, ", ")?;
+    append_number(out, seconds)?;
+    append_text(out, ".")?;
+    append_number(out, u64::from(thousandths / 100))?;
+    append_text(out, " s")
+}
+
+// Appends the last line: how many have passed and how many have failed, and how long all took; nothing if there is none.
+fn append_last(out: &mut Vec<u8>, tally: &Tally, time: Option<(u64, u32)>) -> Result<(), NoMemory>
+    ensures { OnOk result (out.new.items ≡ out.old.items ++ last_line time tally.now) }
+{
+    if tally.cases == 0 {
+        return Ok(());
+    }
+    let Some(failed) = tally.inconc.checked_add(tally.fail) else {
+        return Err(NoMemory);
+    };
+    append_sum(out, tally.none, tally.pass)?;
+    append_text(out, " passed, ")?;
+    append_sum(out, failed, tally.error)?;
+    append_text(out, " failed")?;
+    append_whole_time(out, time)?;
+    append_text(out, "\n")
 }
 
 /// Reports each test case by a line as it begins and by one as it finishes, and passes it on to another observer, which
 /// says whether the campaign continues. The test cases that have failed, with inconc, fail or error, are named again by
-/// `end`. If a line can't be printed, nothing more is, and the campaign continues all the same.
+/// `end`, and counted. Or only these have a line, and none is named again. If a line can't be printed, nothing more is, and the campaign continues all the same.
 #[derive(Drop)]
-pub struct Progress<'a, O: Observer, E: Write, C: Clock> {
+pub struct Progress<'a, 'c, O: Observer, E: Write, C: Clock> {
     alloc: Global,
-    clock: &'a C,
+    /// What measures the test cases.
+    pub watch: &'a mut Stopwatch<'c, C>,
     /// The stopping rule of the campaign.
     stop_on: Option<Verdict>,
-    /// When the last of them began, if the clock said it.
-    since: Option<Instant>,
-    /// The names of the test cases that are run, in their order.
-    pub names: &'a [Name],
-    /// How many test cases were reported as they finished.
-    pub told: usize,
+    /// Which lines are printed.
+    pub shown: Shown<'a>,
+    /// How many test cases were reported as they finished, by their verdicts.
+    pub tally: Tally,
     /// Whether the next one has begun.
     pub begun: bool,
     /// The observer that is given the test cases.
@@ -163,35 +248,36 @@ pub struct Progress<'a, O: Observer, E: Write, C: Clock> {
     pub fault: Option<OutFault>,
 }
 
-impl<'a, O: Observer, E: Write, C: Clock> Progress<'a, O, E, C> {
-    /// Reports the test cases of these names, which are run under this stopping rule. Prints to this writer, and passes
-    /// on to this observer. The lines that name the failed test cases again are kept in `failed`, instead of what it
-    /// holds.
+impl<'a, 'c, O: Observer, E: Write, C: Clock> Progress<'a, 'c, O, E, C> {
+    /// Reports test cases by these lines, which are run under this stopping rule, and has this stopwatch measure them.
+    /// Prints to this writer, and passes on to this observer. The lines that name the failed test cases again are kept in
+    /// `failed`, instead of what it holds.
     pub fn new(
         alloc: Global,
-        clock: &'a C,
-        names: &'a [Name],
+        watch: &'a mut Stopwatch<'c, C>,
+        shown: Shown<'a>,
         stop_on: Option<Verdict>,
         observer: &'a mut O,
         writer: &'a mut E,
         failed: &'a mut Vec<u8>,
-    ) -> Progress<'a, O, E, C>
+    ) -> Progress<'a, 'c, O, E, C>
+        ensures same_watch { result.watch.ghost_name ≡ watch.entry.ghost_name }
         ensures same_observer { result.observer.ghost_name ≡ observer.entry.ghost_name }
         ensures same_writer { result.writer.ghost_name ≡ writer.entry.ghost_name }
         ensures same_failed { result.failed.ghost_name ≡ failed.entry.ghost_name }
+        ensures cases { result.watch.now.cases ≡ watch.old.cases }
         ensures observer { result.observer.now ≡ observer.old }
         ensures writer { result.writer.now ≡ writer.old }
-        ensures names { result.names.now ≡ names.now }
+        ensures shown { result.shown ≡ shown.entry }
         ensures none { HasTold E.contents (E.contents writer.old) [] result }
     {
         failed.clear();
         Progress {
             alloc,
-            clock,
+            watch,
             stop_on,
-            since: None,
-            names,
-            told: 0,
+            shown,
+            tally: tally_cases(&[]),
             begun: false,
             observer,
             writer,
@@ -200,30 +286,28 @@ impl<'a, O: Observer, E: Write, C: Clock> Progress<'a, O, E, C> {
         }
     }
 
-    // Prints the line of the next test case, if there is one, and looks at the clock.
+    // Prints the line of the next test case, if there is one.
     #[tactic(auto, using(crate::proofs::Writing::prefix_none))]
     fn print_next(&mut self) -> Result<(), OutFault>
         ensures all { OnOk result (Appends (E.contents self.old.writer.now) (E.contents self.new.writer.now)
-            (begun_line self.old.names.now self.old.told)) }
+            (begun_text (self.old.shown.only, self.old.shown.names.now) self.old.tally.cases)) }
         ensures part { OnErr result (AppendsPrefix (E.contents self.old.writer.now) (E.contents self.new.writer.now)
-            (begun_line self.old.names.now self.old.told)) }
+            (begun_text (self.old.shown.only, self.old.shown.names.now) self.old.tally.cases)) }
         ensures only { OnlyPrints self.old self.new }
         ensures failed { self.new.failed ≡ self.old.failed }
     {
         let mut line = Vec::new(self.alloc);
-        append_begun_line(&mut line, self.names, self.told)?;
-        let answer = print(self.writer, line.as_slice());
-        self.since = Instant::now(self.clock).ok();
-        answer
+        append_begun_line(&mut line, self.shown, self.tally.cases)?;
+        print(self.writer, line.as_slice())
     }
 
-    /// Reports that the next test case begins, if it was not reported, there is one, and lines are still printed. It is
-    /// called before the campaign; `take` calls it before each test case after the first.
-    pub fn begin(&mut self)
+    // Reports that the next test case begins, if it was not reported, there is one, and lines are still printed.
+    fn tell_next(&mut self)
         ensures told { (start : Option (List ℕ)) (fs : List Finished)
             → HasTold E.contents start fs self.old → HasTold E.contents start fs self.new }
         ensures begun { self.new.fault ≡ None → self.new.begun ≡ true }
-        ensures names { self.new.names ≡ self.old.names }
+        ensures shown { self.new.shown ≡ self.old.shown }
+        ensures watch { self.new.watch ≡ self.old.watch }
         ensures others { self.new.observer ≡ self.old.observer }
         ensures same_writer { self.new.writer.ghost_name ≡ self.old.writer.ghost_name }
         ensures same_failed { self.new.failed.ghost_name ≡ self.old.failed.ghost_name }
@@ -240,10 +324,39 @@ impl<'a, O: Observer, E: Write, C: Clock> Progress<'a, O, E, C> {
         }
     }
 
-    // How long the test case that began last has taken, if the clock says it: seconds and thousandths.
-    fn time(&self) -> Option<(u64, u32)> {
-        let time = self.since?.elapsed(self.clock).ok()?;
-        Some((time.as_secs(), time.subsec_millis()))
+    /// The next test case begins: reports it, if there is one, it was not reported, and lines are still printed. It is
+    /// called before the campaign; `take` calls it before each test case after the first.
+    pub fn begin(&mut self)
+        ensures told { (start : Option (List ℕ)) (fs : List Finished)
+            → HasTold E.contents start fs self.old → HasTold E.contents start fs self.new }
+        ensures begun { self.new.fault ≡ None → self.new.begun ≡ true }
+        ensures shown { self.new.shown ≡ self.old.shown }
+        ensures watch { self.new.watch.now.cases ≡ self.old.watch.now.cases }
+        ensures same_watch { self.new.watch.ghost_name ≡ self.old.watch.ghost_name }
+        ensures others { self.new.observer ≡ self.old.observer }
+        ensures same_writer { self.new.writer.ghost_name ≡ self.old.writer.ghost_name }
+        ensures same_failed { self.new.failed.ghost_name ≡ self.old.failed.ghost_name }
+    {
+        self.tell_next();
+        self.watch.begin();
+    }
+
+    // The line of the test case, which took this time, for this reason; none if only failures have one.
+    fn line(
+        &self,
+        case: &Finished,
+        time: Option<(u64, u32)>,
+        why: &[u8],
+    ) -> Result<Vec<u8>, NoMemory>
+        ensures { IfOk result (λ v. v.items
+            ≡ line_by_place (self.now.shown.only, self.now.shown.names.now) self.now.tally.cases why.now time case.now) }
+    {
+        let mut line = Vec::new(self.alloc);
+        if !self.shown.only || verdict_status(case.report.verdict) != 0 {
+            append_place(&mut line, self.tally.cases, self.shown.names)?;
+            append_line(self.alloc, &mut line, case, time, why)?;
+        }
+        Ok(line)
     }
 
     // Prints the line of the test case, which took this time, and keeps the line that names it again if it has failed.
@@ -252,57 +365,54 @@ impl<'a, O: Observer, E: Write, C: Clock> Progress<'a, O, E, C> {
         &mut self,
         case: &Finished,
         time: Option<(u64, u32)>,
-        cause: &Option<Cause>,
+        why: &[u8],
     ) -> Result<(), OutFault>
         ensures all { OnOk result (Appends (E.contents self.old.writer.now) (E.contents self.new.writer.now)
-            (case_place self.old.names.now self.old.told ++ rest_by cause.now time case.now)) }
+            (line_by_place (self.old.shown.only, self.old.shown.names.now) self.old.tally.cases why.now time case.now)) }
         ensures part { OnErr result (AppendsPrefix (E.contents self.old.writer.now) (E.contents self.new.writer.now)
-            (case_place self.old.names.now self.old.told ++ rest_by cause.now time case.now)) }
-        ensures failed { OnOk result (self.new.failed.now.items ≡ self.old.failed.now.items ++ failed_by cause.now case.now) }
+            (line_by_place (self.old.shown.only, self.old.shown.names.now) self.old.tally.cases why.now time case.now)) }
+        ensures failed { OnOk result (self.new.failed.now.items
+            ≡ self.old.failed.now.items ++ again_by self.old.shown.only why.now case.now) }
         ensures only { OnlyPrints self.old self.new }
     {
-        let mut line = Vec::new(self.alloc);
-        append_place(&mut line, self.told, self.names)?;
-        append_line(self.alloc, &mut line, case, time, cause)?;
-        append_failed(self.alloc, self.failed, case, cause)?;
+        let line = self.line(case, time, why)?;
+        append_failed(self.alloc, self.failed, case, self.shown.only, why)?;
         print(self.writer, line.as_slice())
     }
 
-    // Reports the test case, which took this time. Returns how many were reported.
-    #[tactic(auto, using(crate::proofs::Writing::prefix_none, crate::proofs::Lemmas::Telling::failed_one))]
-    fn tell_case(&mut self, case: &Finished, time: Option<(u64, u32)>) -> Result<usize, OutFault>
+    // Reports the test case, which took this time. Returns the tally with it.
+    #[tactic(auto, using(crate::proofs::Writing::prefix_none, crate::proofs::Lemmas::Telling::again_one))]
+    fn tell_case(&mut self, case: &Finished, time: Option<(u64, u32)>) -> Result<Tally, OutFault>
         ensures all { OnOk result (Appends (E.contents self.old.writer.now) (E.contents self.new.writer.now)
-            (finished_line (case_place self.old.names.now self.old.told) time case.now)) }
+            (finished_text (self.old.shown.only, self.old.shown.names.now) self.old.tally.cases time case.now)) }
         ensures part { OnErr result (AppendsPrefix (E.contents self.old.writer.now) (E.contents self.new.writer.now)
-            (finished_line (case_place self.old.names.now self.old.told) time case.now)) }
-        ensures failed { OnOk result (self.new.failed.now.items ≡ self.old.failed.now.items ++ failed_lines (case.now ∷ [])) }
+            (finished_text (self.old.shown.only, self.old.shown.names.now) self.old.tally.cases time case.now)) }
+        ensures failed { OnOk result (self.new.failed.now.items
+            ≡ self.old.failed.now.items ++ again_lines self.old.shown.only (case.now ∷ [])) }
         ensures only { OnlyPrints self.old self.new }
-        ensures count { IfOk result (λ told. told ≡ self.old.told + 1) }
+        ensures tally { IfOk result (IsOneMore self.old.tally case.now) }
     {
-        let ending = CaseEnd::Over(case.report.verdict);
-        let cause = cause_of(self.alloc, ending, case.report.history.as_slice())?;
-        let Some(told) = self.told.checked_add(1) else {
-            return Err(OutFault::NoMemory);
-        };
-        self.print_case(case, time, &cause)?;
-        Ok(told)
+        let why = why(self.alloc, case)?;
+        let tally = with_case(&self.tally, case)?;
+        self.print_case(case, time, why.as_slice())?;
+        Ok(tally)
     }
 
-    // Reports the test case, if lines are still printed.
-    fn tell(&mut self, case: &Finished)
+    // Reports the test case, which took this time, if lines are still printed.
+    fn tell(&mut self, case: &Finished, time: Option<(u64, u32)>)
         ensures told { TellsProgress E.contents self.old case.now self.new }
-        ensures names { self.new.names ≡ self.old.names }
+        ensures shown { self.new.shown ≡ self.old.shown }
+        ensures watch { self.new.watch ≡ self.old.watch }
         ensures others { self.new.observer ≡ self.old.observer }
         ensures same_writer { self.new.writer.ghost_name ≡ self.old.writer.ghost_name }
         ensures same_failed { self.new.failed.ghost_name ≡ self.old.failed.ghost_name }
     {
-        self.begin();
-        let time = self.time();
+        self.tell_next();
         match self.fault {
             Some(_) => {}
             None => match self.tell_case(case, time) {
-                Ok(told) => {
-                    self.told = told;
+                Ok(tally) => {
+                    self.tally = tally;
                     self.begun = false;
                 }
                 Err(fault) => self.fault = Some(fault),
@@ -310,34 +420,55 @@ impl<'a, O: Observer, E: Write, C: Clock> Progress<'a, O, E, C> {
         }
     }
 
-    /// Names the test cases again that have failed, if lines are still printed; returns why a line could not be
-    /// printed, if it is so.
+    // Prints the lines that name the test cases again that have failed, and the last one with this time.
+    #[tactic(auto, using(crate::proofs::Writing::prefix_none))]
+    fn print_closing(&mut self, time: Option<(u64, u32)>) -> Result<(), OutFault>
+        ensures all { OnOk result (Appends (E.contents self.old.writer.now) (E.contents self.new.writer.now)
+            (self.old.failed.now.items ++ last_line time self.old.tally)) }
+        ensures part { OnErr result (AppendsPrefix (E.contents self.old.writer.now) (E.contents self.new.writer.now)
+            (self.old.failed.now.items ++ last_line time self.old.tally)) }
+        ensures only { OnlyPrints self.old self.new }
+    {
+        append_last(self.failed, &self.tally, time)?;
+        print(self.writer, self.failed.as_slice())
+    }
+
+    /// Names the test cases again that have failed, and counts all, if lines are still printed; returns why a line could
+    /// not be printed, if it is so.
     pub fn end(&mut self) -> Result<(), OutFault>
         ensures told { (start : Option (List ℕ)) (fs : List Finished) → HasTold E.contents start fs self.old
-            → IsToldBy true start (E.contents self.new.writer.now) fs result }
+            → IsToldBy true (self.old.shown.only, self.old.shown.names.now) start (E.contents self.new.writer.now) fs result }
+        ensures watch { self.new.watch ≡ self.old.watch }
         ensures others { self.new.observer ≡ self.old.observer }
         ensures same_writer { self.new.writer.ghost_name ≡ self.old.writer.ghost_name }
         ensures same_failed { self.new.failed.ghost_name ≡ self.old.failed.ghost_name }
+        ensures shown { self.new.shown ≡ self.old.shown }
     {
         match self.fault {
             Some(fault) => Err(fault),
-            None => print(self.writer, self.failed.as_slice()),
+            None => {
+                let time = self.watch.whole();
+                self.print_closing(time)
+            }
         }
     }
 }
 
-impl<O: Observer, E: Write, C: Clock> Observer for Progress<'_, O, E, C> {
+impl<O: Observer, E: Write, C: Clock> Observer for Progress<'_, '_, O, E, C> {
     ghost takes = { λ before f after goes_on.
         O.takes before.observer.now f after.observer.now goes_on
         × TellsProgress E.contents before f after
+        × KeepsTimes before.watch.now.cases 1 after.watch.now.cases
+        × (after.watch.ghost_name ≡ before.watch.ghost_name)
         × (after.observer.ghost_name ≡ before.observer.ghost_name)
         × (after.writer.ghost_name ≡ before.writer.ghost_name)
         × (after.failed.ghost_name ≡ before.failed.ghost_name)
-        × (after.names ≡ before.names) };
+        × (after.shown ≡ before.shown) };
 
     fn take(&mut self, case: Finished) -> bool {
         let last = is_met(self.stop_on, case.report.verdict);
-        self.tell(&case);
+        let time = self.watch.finish();
+        self.tell(&case, time);
         let goes_on = self.observer.take(case);
         if goes_on && !last {
             self.begin();

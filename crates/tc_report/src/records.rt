@@ -3,7 +3,7 @@ ghost use Rattle.std.specs.Prelude.{◌≡◌, ◌++◌, ◌∷◌, [], OnOk, If
 ghost use Rattle.std.specs.{Fmt.IsBoundedDecimal, Fmt.decimal, Io.KnownBytes.Appends, List.flat_map};
 ghost use Rattle.csv.specs.Records.{fields_of, partial_of};
 ghost use Rattle.tc_rules.specs.Prelude.{IsName};
-ghost use Rattle.tc_report.specs.{Csv.columns_text, Csv.counts_of, Csv.csv_of, Csv.end_word as spec_word, Csv.row_line, Inside.IsBetweenRecords, Inside.IsStarted, Inside.written_by, Output.LeavesPrefix, Summary.case_summary};
+ghost use Rattle.tc_report.specs.{Csv.columns_text, Csv.csv_of, Csv.end_word as spec_word, Csv.row_line, Inside.IsBetweenRecords, Inside.IsStarted, Inside.counts_of, Inside.written_by, Output.LeavesPrefix, Summary.case_summary};
 
 use crate::counts::count_of;
 use crate::fault::OutFault;

@@ -1,9 +1,9 @@
 //! The text report.
-ghost use Rattle.std.specs.Prelude.{◌≡◌, ◌++◌, ◌∷◌, OnOk, OnErr, IfErr, IfSome, [], codes, slice_get, unwrap_or};
+ghost use Rattle.std.specs.Prelude.{◌≡◌, ◌++◌, ◌∷◌, OnOk, OnErr, IfErr, IfSome, [], codes, option_copied, slice_get, unwrap_or};
 ghost use Rattle.std.specs.{Fmt.decimal, Io.KnownBytes.Appends, Io.StartsWith, List.flat_map};
-ghost use Rattle.tc_text.specs.Prelude.{op_text};
+ghost use Rattle.tc_text.specs.Prelude.{op_text, reply_text};
 ghost use Rattle.tc_rules.specs.Prelude.{name_of as spec_name};
-ghost use Rattle.tc_report.specs.{Output.LeavesPrefix, Report.call_text, Report.case_text, Report.local_lines, Report.report_text, Report.run_line, Report.run_text, Report.shown_entry, Report.shown_op, Report.tally_line, Report.verdict_line};
+ghost use Rattle.tc_report.specs.{Output.LeavesPrefix, Report.case_text, Report.local_lines, Report.report_text, Report.run_text, Report.shown_entry, Report.shown_op, Report.tally_line, Report.verdict_line};
 
 use crate::counts::tally;
 use crate::ending::append_ending;
@@ -12,7 +12,7 @@ use crate::output::write_made;
 use crate::results::{Finished, Results, Tally};
 use std::alloc::Global;
 use std::io::Write;
-use tc_entry::{Entry, Name, NoMemory, Op, Reply, Run, Verdict};
+use tc_entry::{Comp, Entry, Name, NoMemory, Op, Reply, Run, Verdict};
 use tc_rules::RunLog;
 use tc_text::{append_number, append_text, write_op, write_reply};
 use tc_verdict::{UserVerdict, name as name_of};
@@ -35,7 +35,7 @@ pub(crate) fn append_op(out: &mut Vec<u8>, op: &Op) -> Result<(), NoMemory>
 
 // What is shown of a setting that was carried out.
 fn set_line(setting: UserVerdict) -> &'static str
-    ensures { result.now ≡ codes "  " ++ (call_text (Op.SetVerdict setting) Reply.Ok ++ 10 ∷ []) }
+    ensures { result.now ≡ codes "  " ++ ((op_text (Op.SetVerdict setting) ++ (codes " -> " ++ reply_text Reply.Ok)) ++ 10 ∷ []) }
 {
     match setting {
         UserVerdict::None => "  setverdict none -> ok\n",
@@ -47,7 +47,7 @@ fn set_line(setting: UserVerdict) -> &'static str
 
 // What is shown of a getverdict and the verdict that it got.
 fn got_line(verdict: Verdict) -> &'static str
-    ensures { result.now ≡ codes "  " ++ (call_text Op.GetVerdict (Reply.Local verdict) ++ 10 ∷ []) }
+    ensures { result.now ≡ codes "  " ++ ((op_text Op.GetVerdict ++ (codes " -> " ++ reply_text (Reply.Local verdict))) ++ 10 ∷ []) }
 {
     match verdict {
         Verdict::None => "  getverdict -> none\n",
@@ -97,11 +97,11 @@ pub(crate) fn append_entries(out: &mut Vec<u8>, entries: &[Entry]) -> Result<(),
     Ok(())
 }
 
-// Appends the name of the run's behaviour, if it has one.
-fn append_behaviour(out: &mut Vec<u8>, names: &[Name], run: Run) -> Result<(), NoMemory>
-    ensures { OnOk result (out.new.items ≡ out.old.items ++ unwrap_or (slice_get names.now run.0) []) }
+// Appends the name, if there is one.
+fn append_behaviour(out: &mut Vec<u8>, name: Option<&Name>) -> Result<(), NoMemory>
+    ensures { OnOk result (out.new.items ≡ out.old.items ++ unwrap_or (option_copied name.entry) []) }
 {
-    match names.get(usize::from(run.0)) {
+    match name {
         Some(name) => {
             out.extend_from_slice(name.bytes())?;
             Ok(())
@@ -110,26 +110,41 @@ fn append_behaviour(out: &mut Vec<u8>, names: &[Name], run: Run) -> Result<(), N
     }
 }
 
-fn append_run_line(out: &mut Vec<u8>, names: &[Name], log: &RunLog) -> Result<(), NoMemory>
-    ensures { OnOk result (out.new.items ≡ out.old.items ++ run_line names.now log.now) }
+/// Appends the line of a run on this component, whose behaviour has this name, if it has one.
+pub(crate) fn append_run_line(
+    out: &mut Vec<u8>,
+    run: Run,
+    name: Option<&Name>,
+    comp: Comp,
+) -> Result<(), NoMemory>
+    ensures { OnOk result (out.new.items ≡ out.old.items ++ (codes "run " ++ (decimal run.0 ++ (codes " "
+        ++ (unwrap_or (option_copied name.entry) [] ++ (codes " on " ++ (decimal comp.0 ++ 10 ∷ []))))))) }
 {
     append_text(out, "run ")?;
-    append_number(out, u64::from(log.run.0))?;
+    append_number(out, u64::from(run.0))?;
     append_text(out, " ")?;
-    append_behaviour(out, names, log.run)?;
+    append_behaviour(out, name)?;
     append_text(out, " on ")?;
-    append_number(out, u64::from(log.comp.0))?;
+    append_number(out, u64::from(comp.0))?;
     out.push(b'\n')?;
     Ok(())
 }
 
+// Appends the run of this log, and its entries.
+fn append_run(out: &mut Vec<u8>, names: &[Name], log: &RunLog) -> Result<(), NoMemory>
+    ensures { OnOk result (out.new.items ≡ out.old.items ++ run_text (λ b. unwrap_or (slice_get names.now b) []) log.now) }
+{
+    append_run_line(out, log.run, names.get(usize::from(log.run.0)), log.comp)?;
+    append_entries(out, log.entries.as_slice())
+}
+
 // Appends each run that was started, and its log.
 fn append_runs(out: &mut Vec<u8>, names: &[Name], logs: &[RunLog]) -> Result<(), NoMemory>
-    ensures { OnOk result (out.new.items ≡ out.old.items ++ flat_map (run_text names.now) logs.now) }
+    ensures { OnOk result (out.new.items ≡ out.old.items
+        ++ flat_map (run_text (λ b. unwrap_or (slice_get names.now b) [])) logs.now) }
 {
     for log in logs {
-        append_run_line(out, names, log)?;
-        append_entries(out, log.entries.as_slice())?;
+        append_run(out, names, log)?;
     }
     Ok(())
 }
@@ -157,8 +172,8 @@ pub(crate) fn append_locals(out: &mut Vec<u8>, locals: &[Verdict]) -> Result<(),
     Ok(())
 }
 
-// Appends the line that names a test case.
-fn append_name(out: &mut Vec<u8>, name: &Name) -> Result<(), NoMemory>
+/// Appends the line that names a test case.
+pub(crate) fn append_name(out: &mut Vec<u8>, name: &Name) -> Result<(), NoMemory>
     ensures { OnOk result (out.new.items ≡ out.old.items ++ (codes "testcase " ++ (name.now ++ 10 ∷ []))) }
 {
     append_text(out, "testcase ")?;

@@ -1,11 +1,16 @@
 //! What reports say of a test case.
-ghost use Rattle.std.specs.Prelude.{◌≡◌, ◌++◌, IfOk, OnOk, List, drop, map, reverse};
-ghost use Rattle.tc_rules.specs.Prelude.{Entry as AnyEntry, StandsFor};
-ghost use Rattle.tc_report.specs.{Summary.aborted_summary, Summary.bare_summary as spec_bare, Summary.case_end, Summary.case_summary, Summary.results_summaries, Summary.summary_of, Summary.summary_with as spec_with, declared.results.CaseEnd.TheVariants.NotRun};
+ghost use Rattle.std.specs.Prelude.{◌≡◌, ◌++◌, IfOk, OnOk, List, drop, if◌then◌else◌, map, reverse};
+ghost use Rattle.tc_rules.specs.Prelude.{Entry as AnyEntry, StandsFor, is_over, overall};
+ghost use Rattle.tc_blocks.specs.declared.header.Kind.{Kind};
+ghost use Rattle.tc_report.specs.{Summary.aborted_summary, Summary.bare_summary as spec_bare, Summary.case_summary, Summary.results_summaries, Summary.said_of as spec_said, Summary.summary_of, Summary.summary_with as spec_with, Summary.waits_if, Summary.with_waits as spec_waits, declared.results.CaseEnd.TheVariants.NotRun};
 
+use crate::blocks::first_names;
 use crate::cause::{Cause, cause_of};
-use crate::names::names_of;
+use crate::names::{names_in, no_names};
+use crate::naming::{Names, Naming, namings_of};
 use crate::results::{CampaignEnd, CaseEnd, Finished, Results};
+use crate::said::Said;
+use crate::waits::append_waits;
 use std::alloc::Global;
 use tc_entry::{Entry, Name, NoMemory, Sequence, Verdict};
 use tc_rules::{CaseState, locals_of};
@@ -17,69 +22,14 @@ pub struct Summary {
     pub name: Name,
     /// The local verdicts, that of the main component first.
     pub locals: Sequence<Verdict>,
-    /// The names of the components that have one, that of the main component first, if the test case is not over or its
-    /// verdict is worse than pass.
-    pub names: Sequence<Option<Name>>,
+    /// The names of its components and behaviours.
+    pub names: Names,
     /// How it ended.
     pub ending: CaseEnd,
     /// What decided its verdict, if it is over and its verdict is worse than pass.
     pub cause: Option<Cause>,
-}
-
-// How a test case ended whose history left this state.
-fn end_of_state(state: &CaseState) -> CaseEnd
-    ensures { (past : List AnyEntry) → StandsFor state.now past → result ≡ case_end past }
-{
-    if state.is_over() {
-        CaseEnd::Over(state.overall())
-    } else {
-        CaseEnd::Unfinished
-    }
-}
-
-// The summary of the test case of this name, with these local verdicts, this end and this history.
-fn summary_with(
-    alloc: Global,
-    name: &Name,
-    locals: Vec<Verdict>,
-    ending: CaseEnd,
-    history: &[Entry],
-) -> Result<Summary, NoMemory>
-    ensures { IfOk result (λ s. s ≡ spec_with name.now locals.items ending history.now) }
-{
-    let names = names_of(alloc, ending, history)?;
-    let cause = cause_of(alloc, ending, history)?;
-    Ok(Summary {
-        name: name.copy(),
-        locals: Sequence::new(locals),
-        names: Sequence::new(names),
-        ending,
-        cause,
-    })
-}
-
-/// The summary of the test case of this name with this history, which left this state.
-pub fn summary_of_state(
-    alloc: Global,
-    name: &Name,
-    state: &CaseState,
-    history: &[Entry],
-) -> Result<Summary, NoMemory>
-    ensures { StandsFor state.now (reverse history.now) → IfOk result (λ s. s ≡ summary_of name.now history.now) }
-{
-    let locals = locals_of(alloc, state)?;
-    summary_with(alloc, name, locals, end_of_state(state), history)
-}
-
-/// The summary of a finished test case.
-pub fn summary_of_case(alloc: Global, case: &Finished) -> Result<Summary, NoMemory>
-    ensures { IfOk result (λ s. s ≡ case_summary case.now) }
-{
-    let report = &case.report;
-    let mut locals = Vec::new(alloc);
-    locals.extend_from_slice(report.locals.as_slice())?;
-    let ending = CaseEnd::Over(report.verdict);
-    summary_with(alloc, &case.name, locals, ending, report.history.as_slice())
+    /// The lines of who waits for whom, if its verdict is error since no run can continue.
+    pub waits: Sequence<u8>,
 }
 
 /// The summary of the test case of this name that ended so, without a local verdict.
@@ -89,10 +39,142 @@ pub fn bare_summary(alloc: Global, ending: CaseEnd, name: &Name) -> Summary
     Summary {
         name: name.copy(),
         locals: Sequence::new(Vec::new(alloc)),
-        names: Sequence::new(Vec::new(alloc)),
+        names: no_names(alloc),
         ending,
         cause: None,
+        waits: Sequence::new(Vec::new(alloc)),
     }
+}
+
+// How a test case ended whose history left this state.
+fn end_of_state(state: &CaseState) -> CaseEnd
+    ensures { (past : List AnyEntry) → StandsFor state.now past → result ≡ (if is_over past then CaseEnd.Over (overall past) else CaseEnd.Unfinished) }
+{
+    if state.is_over() {
+        CaseEnd::Over(state.overall())
+    } else {
+        CaseEnd::Unfinished
+    }
+}
+
+// The same names.
+fn copied(alloc: Global, namings: &[Naming]) -> Result<Vec<Naming>, NoMemory>
+    ensures { IfOk result (λ v. v.items ≡ namings.now) }
+{
+    let mut copy = Vec::new(alloc);
+    for naming in namings {
+        copy.push(Naming {
+            run: naming.run,
+            name: naming.name.copy(),
+        })?;
+    }
+    Ok(copy)
+}
+
+// The summary of the test case of this name, with these local verdicts, this end and this history, next to which this is
+// said: without the lines of who waits for whom.
+fn summary_with(
+    alloc: Global,
+    name: &Name,
+    locals: Vec<Verdict>,
+    ending: CaseEnd,
+    history: &[Entry],
+    said: &Said,
+) -> Result<Summary, NoMemory>
+    ensures { IfOk result (λ s. s ≡ spec_with name.now locals.items ending history.now said.now) }
+{
+    let cause = cause_of(alloc, ending, said.remarks.as_slice(), history)?;
+    let runs = copied(alloc, said.names.as_slice())?;
+    let names = names_in(alloc, history, runs)?;
+    Ok(Summary {
+        name: name.copy(),
+        locals: Sequence::new(locals),
+        names,
+        ending,
+        cause,
+        waits: Sequence::new(Vec::new(alloc)),
+    })
+}
+
+// The lines of who waits for whom in this history of a test case of that many behaviours, if its verdict is error.
+fn waits_in(
+    alloc: Global,
+    summary: &Summary,
+    behaviours: u16,
+    history: &[Entry],
+) -> Result<Vec<u8>, NoMemory>
+    ensures { IfOk result (λ v. v.items ≡ waits_if summary.now.ending summary.now.names behaviours history.now) }
+{
+    let mut waits = Vec::new(alloc);
+    if let CaseEnd::Over(Verdict::Error) = summary.ending {
+        append_waits(alloc, &mut waits, &summary.names, behaviours, history)?;
+    }
+    Ok(waits)
+}
+
+// The summary with these lines.
+fn with_waits(
+    alloc: Global,
+    summary: Summary,
+    behaviours: u16,
+    history: &[Entry],
+) -> Result<Summary, NoMemory>
+    ensures { IfOk result (λ s. s ≡ spec_waits behaviours history.now summary) }
+{
+    let mut summary = summary;
+    let waits = waits_in(alloc, &summary, behaviours, history)?;
+    summary.waits = Sequence::new(waits);
+    Ok(summary)
+}
+
+/// The summary of the test case of this name with this history, which left this state, and with what is said next to it.
+pub fn summary_of_state(
+    alloc: Global,
+    name: &Name,
+    state: &CaseState,
+    history: &[Entry],
+    said: &Said,
+) -> Result<Summary, NoMemory>
+    ensures { StandsFor state.now (reverse history.now)
+        → IfOk result (λ s. s ≡ summary_of name.now state.now.behaviours history.now said.now) }
+{
+    let locals = locals_of(alloc, state)?;
+    let summary = summary_with(alloc, name, locals, end_of_state(state), history, said)?;
+    with_waits(alloc, summary, state.behaviours(), history)
+}
+
+// What evidence of a finished test case says next to its entries.
+fn said_of(alloc: Global, case: &Finished) -> Result<Said, NoMemory>
+    ensures { IfOk result (λ said. said ≡ spec_said Kind.Evidence case.now) }
+{
+    let given = first_names(case.names.as_slice(), case.report.behaviours);
+    let names = namings_of(alloc, given)?;
+    Ok(Said {
+        names: Sequence::new(names),
+        remarks: Sequence::new(Vec::new(alloc)),
+    })
+}
+
+// The summary of a finished test case without the lines of who waits for whom.
+fn summary_without(alloc: Global, case: &Finished) -> Result<Summary, NoMemory>
+    ensures { IfOk result (λ s. s ≡ spec_with case.now.name case.now.report.locals (CaseEnd.Over case.now.report.verdict)
+        case.now.report.history (spec_said Kind.Evidence case.now)) }
+{
+    let mut locals = Vec::new(alloc);
+    locals.extend_from_slice(case.report.locals.as_slice())?;
+    let ending = CaseEnd::Over(case.report.verdict);
+    let said = said_of(alloc, case)?;
+    let history = case.report.history.as_slice();
+    summary_with(alloc, &case.name, locals, ending, history, &said)
+}
+
+/// The summary of a finished test case.
+pub fn summary_of_case(alloc: Global, case: &Finished) -> Result<Summary, NoMemory>
+    ensures { IfOk result (λ s. s ≡ case_summary case.now) }
+{
+    let summary = summary_without(alloc, case)?;
+    let history = case.report.history.as_slice();
+    with_waits(alloc, summary, case.report.behaviours, history)
 }
 
 // Adds the summary of the test case that has no report, if there is one.

@@ -2,12 +2,13 @@
 ghost use Rattle.std.specs.Prelude.{◌≡◌, ◌++◌, ◌∷◌, [], IfOk, OnOk, codes, filter, length, map, take};
 ghost use Rattle.std.specs.List.{flat_map};
 ghost use Rattle.tc_rules.specs.Prelude.{refusal_text, name_of as spec_name};
-ghost use Rattle.tc_report.specs.{Cause.cause_text, Csv.end_word as end_text, Inside.IsNext, Inside.has_failed, Inside.inner_call, Inside.is_shown, Inside.member_text as spec_member, Inside.numbers_with, Report.tally_by};
+ghost use Rattle.tc_report.specs.{Cause.decided_text, Csv.end_word as end_text, Inside.IsNext, Inside.has_failed, Inside.is_shown, Inside.member_text as spec_member, Inside.members as spec_members, Inside.numbers_with, Report.tally_by};
 ghost use Rattle.tc_report.specs.SummaryText as spec;
 
-use crate::cause::{Cause, append_cause, append_named};
+use crate::cause::{Cause, append_decision};
+use crate::naming::{Names, append_named_entries, append_place};
 use crate::records::end_word;
-use crate::report::{append_count, append_entry, append_tally};
+use crate::report::{append_count, append_tally};
 use crate::results::{CaseEnd, Tally};
 use crate::status::{counted_as, verdict_status};
 use crate::summary::Summary;
@@ -85,7 +86,7 @@ fn member_text(alloc: Global, names: &[Option<Name>], comp: usize) -> Result<Vec
     ensures { IfOk result (λ v. v.items ≡ spec_member names.now comp) }
 {
     let mut text = Vec::new(alloc);
-    append_named(&mut text, comp, names.get(comp).unwrap_or(&None))?;
+    append_place(&mut text, names, comp)?;
     Ok(text)
 }
 
@@ -198,14 +199,14 @@ fn append_locals_with(
     verdict: Verdict,
 ) -> Result<(), NoMemory>
     ensures { OnOk result (out.new.items ≡ out.old.items
-        ++ spec.verdict_group verdict (spec.members names.now locals.now verdict)) }
+        ++ spec.verdict_group verdict (spec_members names.now locals.now verdict)) }
 {
     let members = members(alloc, locals, verdict)?;
     append_members(alloc, out, names, verdict, members.as_slice())
 }
 
-// Appends the components by their local verdicts, the worst first.
-fn append_locals(
+/// Appends the components by their local verdicts, the worst first.
+pub(crate) fn append_locals(
     alloc: Global,
     out: &mut Vec<u8>,
     names: &[Option<Name>],
@@ -220,26 +221,15 @@ fn append_locals(
     append_locals_with(alloc, out, names, locals, Verdict::None)
 }
 
-// Appends what is shown of each entry, deeper in.
-fn append_inner_calls(out: &mut Vec<u8>, entries: &[Entry]) -> Result<(), NoMemory>
-    ensures { OnOk result (out.new.items ≡ out.old.items ++ flat_map inner_call entries.now) }
-{
-    for entry in entries {
-        append_text(out, "  ")?;
-        append_entry(out, entry)?;
-    }
-    Ok(())
-}
-
 // Appends the last five of these calls, if there are some.
-fn append_calls(out: &mut Vec<u8>, calls: &[Entry]) -> Result<(), NoMemory>
-    ensures { OnOk result (out.new.items ≡ out.old.items ++ spec.calls_text calls.now) }
+fn append_calls(out: &mut Vec<u8>, names: &Names, calls: &[Entry]) -> Result<(), NoMemory>
+    ensures { OnOk result (out.new.items ≡ out.old.items ++ spec.calls_text names.now calls.now) }
 {
     if calls.is_empty() {
         return Ok(());
     }
     append_text(out, "  after:\n")?;
-    append_inner_calls(out, &calls[calls.len().saturating_sub(5)..])
+    append_named_entries(out, "    ", names, &calls[calls.len().saturating_sub(5)..])
 }
 
 // Adds a copy of the entry if it is shown: if it was not parked.
@@ -265,16 +255,22 @@ fn calls_before(alloc: Global, cause: &Cause) -> Result<Vec<Entry>, NoMemory>
     Ok(calls)
 }
 
-// Appends what decided a verdict, and the last calls of the run before.
-fn append_decided(alloc: Global, out: &mut Vec<u8>, cause: &Cause) -> Result<(), NoMemory>
-    ensures { OnOk result (out.new.items ≡ out.old.items ++ (codes "  " ++ (cause_text cause.now
-        ++ (codes "\n" ++ spec.calls_text (filter is_shown (take cause.now.before cause.now.log)))))) }
+// Appends what decided a verdict, who waits for whom, and the last calls of the run before.
+fn append_decided(
+    alloc: Global,
+    out: &mut Vec<u8>,
+    case: &Summary,
+    cause: &Cause,
+) -> Result<(), NoMemory>
+    ensures { OnOk result (out.new.items ≡ out.old.items ++ (codes "  " ++ (decided_text case.now.names cause.now ++ (codes "\n"
+        ++ (case.now.waits ++ spec.calls_text case.now.names (filter is_shown (take cause.now.before cause.now.log))))))) }
 {
     let calls = calls_before(alloc, cause)?;
     append_text(out, "  ")?;
-    append_cause(out, cause)?;
+    append_decision(out, &case.names, cause)?;
     append_text(out, "\n")?;
-    append_calls(out, calls.as_slice())
+    out.extend_from_slice(case.waits.as_slice())?;
+    append_calls(out, &case.names, calls.as_slice())
 }
 
 // Appends why a test case has no report.
@@ -288,16 +284,11 @@ fn append_refused(out: &mut Vec<u8>, why: CaseError) -> Result<(), NoMemory>
 
 // Appends why a test case ended so.
 #[tactic(auto, unfolding(crate::specs::SummaryText::reason_lines))]
-fn append_why(
-    alloc: Global,
-    out: &mut Vec<u8>,
-    ending: CaseEnd,
-    cause: &Option<Cause>,
-) -> Result<(), NoMemory>
-    ensures { OnOk result (out.new.items ≡ out.old.items ++ spec.reason_lines ending cause.now) }
+fn append_why(alloc: Global, out: &mut Vec<u8>, case: &Summary) -> Result<(), NoMemory>
+    ensures { OnOk result (out.new.items ≡ out.old.items ++ spec.reason_lines case.now case.now.ending case.now.cause) }
 {
-    match (ending, cause) {
-        (CaseEnd::Over(_), Some(cause)) => append_decided(alloc, out, cause),
+    match (case.ending, &case.cause) {
+        (CaseEnd::Over(_), Some(cause)) => append_decided(alloc, out, case, cause),
         (CaseEnd::Aborted(why), _) => append_refused(out, why),
         _ => Ok(()),
     }
@@ -321,8 +312,9 @@ fn append_failed(alloc: Global, out: &mut Vec<u8>, case: &Summary) -> Result<(),
     ensures { OnOk result (out.new.items ≡ out.old.items ++ spec.shown_case case.now) }
 {
     append_head(out, case)?;
-    append_why(alloc, out, case.ending, &case.cause)?;
-    append_locals(alloc, out, case.names.as_slice(), case.locals.as_slice())
+    append_why(alloc, out, case)?;
+    let comps = case.names.comps.as_slice();
+    append_locals(alloc, out, comps, case.locals.as_slice())
 }
 
 // Appends a test case if it failed.

@@ -1,8 +1,8 @@
 -- What the deciding entry says of the overall verdict.
-use Rattle.std.{proofs.{Common.{ℕ, ◌≡◌, ◌+◌, ◌<◌, ◌≤◌, ◌↔◌, ◌==◌, ◌||◌, if◌then◌else◌, nat_lt, Bool, true, false, Option, Some, None, List, [], ◌∷◌, ◌++◌, IfSome, length, map, take, get_or, reverse, refl, ap, subst, sym, ◌∙◌, arith, length-append}, lemmas.Bool.Decides.nat_tests, lemmas.List.{length-reverse, length-take-le, map-append, reverse-append, take_all, take_more}}, specs.{List.flat_map, Option.MatchOption}}
+use Rattle.std.{proofs.{Common.{ℕ, ◌≡◌, ◌+◌, ◌<◌, ◌≤◌, ◌↔◌, ◌==◌, ◌||◌, if◌then◌else◌, nat_lt, Bool, true, false, Option, Some, None, List, [], ◌∷◌, ◌++◌, IfSome, length, map, take, get_or, reverse, refl, ap, subst, sym, ◌∙◌, arith, length-append}, lemmas.{Bool.Decides.nat_tests, List.{length-reverse, length-take-le, map-append, reverse-append, take_all, take_more}}}, specs.{List.flat_map, Option.MatchOption}}
 use Rattle.tc_entry.specs.{Prelude.{Verdict, level_of, worse, worst, is_ended}, declared.comp.Comp.Comp, declared.entry.Entry.Entry, declared.op.Op.Op, declared.reply.Reply.Reply}
 use Rattle.tc_verdict.proofs.Lemmas.Order.{none_no_worse, worse_later, worse_left, worse_swap, worst-more}
-use Rattle.tc_rules.{specs.{Deciding.{DecidesIfLegal, IsDeciding, deciding, worst_given}, History.{add_new, comp_of, comps, created, exists, is_comp, is_in}, Inside.Step.next_local, Legal.IsLegal, Local.{gives, local, overall, verdicts_of}}, proofs.{Lemmas.Deciding.equal_if, Lemmas.Differing.later_legal, Lemmas.LawsOfHistories.answered_is_running, Lemmas.Over.{on_existing, stays}, Named.map_same}}
+use Rattle.tc_rules.{specs.{Deciding.{IsDeciding, deciding, worst_given}, History.{add_new, comp_of, comps, created, exists, is_comp, is_in}, Inside.Step.next_local, Legal.IsLegal, Local.{gives, local, overall, verdicts_of}}, proofs.{Lemmas.Deciding.equal_if, Lemmas.Differing.later_legal, Lemmas.LawsOfHistories.answered_is_running, Lemmas.Over.{on_existing, stays}, Named.map_same}}
 
 -- a verdict after more that are given
 
@@ -234,6 +234,10 @@ decides_at n past at legal last later earlier is =
     let part : overall earlier ≡ worst_given earlier = overall_given n earlier (later_legal n later earlier (rw is at legal)) in
     let before = last later earlier is in
     (λ same. before.0 (sym part ∙ (same ∙ whole)), λ within. part ∙ (before.1 within ∙ sym whole))
+
+-- in a legal history the entry at this place decides; there is none exactly if the overall verdict is none
+abbrev pub DecidesIfLegal : List Entry → Option ℕ → Type 0
+DecidesIfLegal past at = (n : ℕ) → IsLegal n past → MatchOption at (overall past ≡ Verdict.None) (IsDeciding past)
 
 decides_if_legal : (past : List Entry) → DecidesIfLegal past (deciding past)
 decides_if_legal past n legal = by_place (deciding past) (last_worse past)

@@ -73,9 +73,7 @@ module _ {p q : List Entry} where
 
   still_same : IsSame p q → (ph : Phase) → is_still p ph ≡ is_still q ph
   still_same s (Phase.Running run) = ap (waits_in_vain p) (waiting_same s run.0) ∙ in_vain_same s (waiting q run.0)
-  still_same s Phase.Inactive = refl
-  still_same s Phase.Stopped = refl
-  still_same s Phase.Killed = refl
+  still_same s _ = refl
 
   stuck_same : IsSame p q → is_stuck p ≡ is_stuck q
   unfolding is_stuck
@@ -114,18 +112,7 @@ module _ {p q : List Entry} where
   special_same : IsSame p q → (n : ℕ) (op : Op) → special_fault n p op ≡ special_fault n q op
   special_same s n (Op.Create alive name) = rw (components_same s)
   special_same s n (Op.Start c run args) = start_same s n c.0 run.0
-  special_same s n (Op.Stop g) = refl
-  special_same s n (Op.Kill g) = refl
-  special_same s n (Op.Running t) = refl
-  special_same s n (Op.Alive t) = refl
-  special_same s n (Op.Done t) = refl
-  special_same s n (Op.Killed t) = refl
-  special_same s n (Op.Wait k t) = refl
-  special_same s n (Op.Wake k t) = refl
-  special_same s n Op.StopCase = refl
-  special_same s n (Op.SetVerdict v) = refl
-  special_same s n Op.GetVerdict = refl
-  special_same s n Op.Finish = refl
+  special_same s n _ = refl
 
   fault_same : IsSame p q → (n b : ℕ) (op : Op) → fault n p b op ≡ fault n q b op
   unfolding fault
@@ -140,19 +127,14 @@ module _ {p q : List Entry} where
 
   plain_same : IsSame p q → (b : ℕ) (op : Op) → plain_answer p b op ≡ plain_answer q b op
   plain_same s b (Op.Create alive name) = ap (λ k. Reply.Made (record { 0 = k })) (components_same s)
-  plain_same s b (Op.Start c run args) = refl
-  plain_same s b (Op.Stop g) = refl
-  plain_same s b (Op.Kill g) = refl
   plain_same s b (Op.Running t) = ap Reply.Answer (running_same s t)
   plain_same s b (Op.Alive t) = ap Reply.Answer (alive_same s t)
   plain_same s b (Op.Done t) = ap Reply.Answer (done_same s t)
   plain_same s b (Op.Killed t) = ap Reply.Answer (killed_same s t)
   plain_same s b (Op.Wait k t) = ap (λ h. if h then Reply.Matched else Reply.Parked) (holds_same s (record { killed = k; target = t }))
   plain_same s b (Op.Wake k t) = wake_same s b (record { killed = k; target = t })
-  plain_same s b Op.StopCase = refl
-  plain_same s b (Op.SetVerdict v) = refl
   plain_same s b Op.GetVerdict = ap (local_reply p) (comp_same s b) ∙ local_reply_same s (comp_of q b)
-  plain_same s b Op.Finish = refl
+  plain_same s b _ = refl
 
   -- the same call is answered alike
   pub answer_same : IsSame p q → (n b : ℕ) (op : Op) → answer n p b op ≡ answer n q b op

@@ -1,7 +1,7 @@
 -- The names of components say nothing to the table: a history without them is answered alike.
-use Rattle.std.proofs.Common.{ℕ, ◌≡◌, Bool, Option, None, List, [], ◌∷◌, map, refl, ap, sym, subst, ◌∙◌}
+use Rattle.std.proofs.Common.{ℕ, ◌≡◌, ◌↔◌, Bool, Option, None, List, [], ◌∷◌, map, refl, ap, sym, subst, ◌∙◌}
 use Rattle.tc_entry.specs.declared.{entry.Entry.Entry, op.Op.Op, reply.Reply.Reply}
-use Rattle.tc_rules.{specs.{Answers.answer, Faults.{all_exist, fault}, History.{comp_of, comps, created, exists, halts, is_alive_create, is_alive_type, kills, started_on}, Laws.{NamesSayNothing, unnamed, unnamed_op}, Legal.IsLegal, Local.{gives, local, overall, verdicts_of}, Phases.{halts_from_outside, is_excused, last_run, phase, start_in, was_halted, was_killed}, Waiting.{parks, waiting}}, proofs.Determined.{IsSame, answer_same}}
+use Rattle.tc_rules.{specs.{Answers.answer, Faults.{all_exist, fault}, History.{comp_of, comps, created, exists, halts, is_alive_create, is_alive_type, kills, started_on}, Laws.{unnamed, unnamed_op}, Legal.IsLegal, Local.{gives, local, overall, verdicts_of}, Phases.{halts_from_outside, is_excused, last_run, phase, start_in, was_halted, was_killed}, Waiting.{parks, waiting}}, proofs.Determined.{IsSame, answer_same}}
 
 -- what says the same of a Create with any name says the same of the operation without its name
 ignores : {A : Type 0} (f : Op → A) → ((alive : Bool) (name : Option (List ℕ)) → f (Op.Create alive None) ≡ f (Op.Create alive name)) → (op : Op) → f (unnamed_op op) ≡ f op
@@ -124,12 +124,16 @@ legal_less : (n : ℕ) (past : List Entry) → IsLegal n (map unnamed past) → 
 legal_less n [] legal = tt
 legal_less n (e ∷ past) legal = (legal.0 ∙ reply_of n past e.caller.0 e.op, legal_less n past legal.1)
 
-pub names_say_nothing : NamesSayNothing
-names_say_nothing n h g same = record {
-  legal = (
-    λ legal. legal_less n g (subst (IsLegal n) same (legal_more n h legal)),
-    λ legal. legal_less n h (subst (IsLegal n) (sym same) (legal_more n g legal)),
-  );
-  locals = λ c. sym (local_same h c) ∙ (ap (λ k. local k c) same ∙ local_same g c);
-  overalls = sym (overall_same h) ∙ (ap overall same ∙ overall_same g);
-}
+pub legal_same : (n : ℕ) (h g : List Entry) → map unnamed h ≡ map unnamed g → IsLegal n h ↔ IsLegal n g
+legal_same n h g same = (
+  λ legal. legal_less n g (subst (IsLegal n) same (legal_more n h legal)),
+  λ legal. legal_less n h (subst (IsLegal n) (sym same) (legal_more n g legal)),
+)
+
+pub locals_same : (h g : List Entry) (c : ℕ) → map unnamed h ≡ map unnamed g → local h c ≡ local g c
+locals_same h g c same = sym (local_same h c) ∙ (ap (λ k. local k c) same ∙ local_same g c)
+
+pub overalls_same : (h g : List Entry) → map unnamed h ≡ map unnamed g → overall h ≡ overall g
+overalls_same h g same = sym (overall_same h) ∙ (ap overall same ∙ overall_same g)
+
+pub ruleset naming_rules = (legal_same, locals_same, overalls_same)

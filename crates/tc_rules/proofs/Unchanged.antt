@@ -83,10 +83,8 @@ killed_if true Phase.Stopped h = let e = h refl in absurd cc
 killed_if true Phase.Killed h = refl
 
 killed_is_still : (p : Phase) → is_killed p ≡ true → is_running p ≡ false
-killed_is_still Phase.Killed h = refl
 killed_is_still (Phase.Running r) h = absurd cc
-killed_is_still Phase.Inactive h = refl
-killed_is_still Phase.Stopped h = refl
+killed_is_still _ h = refl
 
 gives_none : (op : Op) (reply : Reply) (case fin stop kill : Bool) → setting op ≡ [] → (not (is_ended reply) && (is_fault reply || case || fin || stop || kill)) ≡ false → gives op reply ≡ []
 gives_none op Reply.Ok case fin stop kill h k = h

@@ -1,6 +1,6 @@
 -- The component table: the reply to every call, by what came before it.
 use Rattle.std.specs.{Prelude.{ℕ, ◌==◌, ◌&&◌, if◌then◌else◌, Bool, false, List}, Option.option_map_or}
-use Rattle.tc_entry.specs.declared.{entry.Entry.Entry, op.Op.Op, phase.Phase.Phase, reply.Fault.Fault, reply.Reply.Reply}
+use Rattle.tc_entry.specs.{declared.{entry.Entry.Entry, op.Op.Op, phase.Phase.Phase, reply.{Fault.Fault, Reply.Reply}}, Prelude.Run}
 use Rattle.tc_rules.specs.{Faults.components, Faults.fault, History.comp_of, Local.local, Phases.phase, Status.alive, Status.done, Status.killed, Status.running, Waiting.holds, Waiting.is_stuck, declared.awaited.Awaited.Awaited}
 
 -- run b is the one that its component is running
@@ -20,21 +20,20 @@ wake_reply past b a =
 -- the reply to a call that is no error
 abbrev pub plain_answer : List Entry → ℕ → Op → Reply
 plain_answer past b (Op.Create alive name) = Reply.Made (record { 0 = components past })
-plain_answer past b (Op.Start c run args) = Reply.Ok
-plain_answer past b (Op.Stop g) = Reply.Ok
-plain_answer past b (Op.Kill g) = Reply.Ok
-plain_answer past b Op.StopCase = Reply.Ok
 plain_answer past b (Op.Running t) = Reply.Answer (running past t)
 plain_answer past b (Op.Alive t) = Reply.Answer (alive past t)
 plain_answer past b (Op.Done t) = Reply.Answer (done past t)
 plain_answer past b (Op.Killed t) = Reply.Answer (killed past t)
 plain_answer past b (Op.Wait k t) = if holds past (record { killed = k; target = t }) then Reply.Matched else Reply.Parked
 plain_answer past b (Op.Wake k t) = wake_reply past b (record { killed = k; target = t })
-plain_answer past b (Op.SetVerdict v) = Reply.Ok
 plain_answer past b Op.GetVerdict = option_map_or (λ c. Reply.Local (local past c.0)) (comp_of past b) Reply.Ended
-plain_answer past b Op.Finish = Reply.Ok
+plain_answer past b _ = Reply.Ok
 
 -- the reply to a call by run b, if there are n behaviours: the error, if there is one
 unfoldable pub answer : ℕ → List Entry → ℕ → Op → Reply
 answer n past b op =
     if is_active past b then option_map_or (λ f. Reply.Fault f) (fault n past b op) (plain_answer past b op) else Reply.Ended
+
+-- the entry of this call, with the component table's reply
+abbrev pub entry_made : ℕ → List Entry → Run → Op → Entry
+entry_made n past run op = record { caller = run; op = op; reply = answer n past run.0 op }

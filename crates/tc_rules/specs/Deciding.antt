@@ -1,7 +1,7 @@
 -- Which entry decided the verdict of a test case, and who made it.
-use Rattle.std.specs.{Prelude.{ℕ, ◌≡◌, ◌<◌, ◌↔◌, nat_lt, if◌then◌else◌, Option, Some, None, MatchOption, List, [], ◌∷◌, ◌++◌, length}, List.flat_map, Option.option_or}
+use Rattle.std.specs.{Prelude.{ℕ, ◌≡◌, ◌<◌, ◌↔◌, nat_lt, if◌then◌else◌, Option, Some, None, List, [], ◌∷◌, ◌++◌, length}, List.flat_map, Option.option_or}
 use Rattle.tc_entry.specs.{Prelude.{Verdict, level_of, worst}, declared.entry.Entry.Entry, declared.op.Op.Op}
-use Rattle.tc_rules.specs.{History.created, History.is_comp, Legal.IsLegal, Local.gives, Local.overall}
+use Rattle.tc_rules.specs.{History.created, History.is_comp, Local.gives, Local.overall}
 
 -- the entry at this place, counted from 0, decides: the overall verdict is the reported one from this entry on, and not before
 abbrev pub IsDeciding : List Entry → ℕ → Type 0
@@ -17,10 +17,6 @@ abbrev pub deciding : List Entry → Option ℕ
 deciding [] = None
 deciding (e ∷ past) =
     if nat_lt (level_of (worst_given past)) (level_of (worst_given (e ∷ past))) then Some (length past) else deciding past
-
--- in a legal history that entry decides; there is none exactly if the overall verdict is none
-abbrev pub DecidesIfLegal : List Entry → Option ℕ → Type 0
-DecidesIfLegal past at = (n : ℕ) → IsLegal n past → MatchOption at (overall past ≡ Verdict.None) (IsDeciding past)
 
 -- the name that an operation gives
 abbrev pub name_in : Op → Option (List ℕ)

@@ -35,10 +35,6 @@ abbrev pub is_many : Target → Bool
 is_many (Target.One c) = false
 is_many _ = true
 
--- the call is about Any or All
-abbrev pub asks_many : Op → Bool
-asks_many op = option_map_or is_many (target_of op) false
-
 -- each of these components exists
 unfoldable pub all_exist : List Entry → List Comp → Bool
 all_exist past cs = list_all (λ c. exists past c.0) cs
@@ -66,5 +62,5 @@ special_fault n past _ = None
 unfoldable pub fault : ℕ → List Entry → ℕ → Op → Option Fault
 fault n past b op =
     if not (all_exist past (names op)) then Some Fault.NoComponent
-    else if asks_many op && not (b == 0) then Some Fault.NotMain
+    else if option_map_or is_many (target_of op) false && not (b == 0) then Some Fault.NotMain
     else special_fault n past op

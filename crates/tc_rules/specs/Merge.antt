@@ -1,6 +1,6 @@
 -- The part of a history by one run, and the merge of a history without verdict entries with the logs of its runs.
 -- `past` lists entries of the history, the newest first, and `log b` is the log of run b.
-use Rattle.std.specs.{Prelude.{ℕ, zero, suc, ◌==◌, ◌++◌, ◌∷◌, [], Bool, Option, List, filter, reverse, ◌+◌, ◌&&◌, not, max, if◌then◌else◌, true, false, None, length, sum_by}, Option.{option_map, option_map_or}}
+use Rattle.std.specs.{Prelude.{ℕ, zero, suc, ◌==◌, ◌++◌, ◌∷◌, Bool, Option, List, [], filter, reverse, ◌+◌, ◌&&◌, not, max, if◌then◌else◌, true, false, None, length}, Option.{option_map, option_map_or}}
 use Rattle.tc_entry.specs.{declared.entry.Entry.Entry, declared.op.Op.Op, Prelude.{Run, is_ended, is_ok}}
 use Rattle.tc_rules.specs.{History.comp_of, History.start, declared.run_log.RunLog.RunLog}
 
@@ -43,10 +43,6 @@ abbrev pub runs_end : List RunLog → ℕ
 runs_end [] = 0
 runs_end (l ∷ ls) = max (l.run.0 + 1) (runs_end ls)
 
--- how many entries these logs have together
-abbrev pub logged : List RunLog → ℕ
-logged logs = sum_by (λ log. length log.entries) logs
-
 -- The verdict entries of a log after its k-th other entry and before the next, without those replied Ended. After none
 -- come those that the log begins with.
 abbrev pub verdict_calls_after : ℕ → List Entry → List Entry
@@ -58,17 +54,13 @@ verdict_calls_after (suc k) (e ∷ es) = verdict_calls_after (if is_other e then
 abbrev pub started : Entry → Option Run
 started e = if is_ok e.reply then option_map (λ s. s.0) (start e.op) else None
 
--- how many of these entries are by run b
-abbrev pub calls_of : ℕ → List Entry → ℕ
-calls_of b past = length (filter (is_by b) past)
-
 -- At the opening come the verdict entries that run 0's log begins with. After each entry come first those after it in
 -- its caller's log, which has as many other entries up to there, and then those that the log of the run that it starts
 -- begins with.
 abbrev pub in_place : (ℕ → List Entry) → List Entry → List Entry
 in_place log [] = verdict_calls_after 0 (log 0)
 in_place log (e ∷ past) =
-    in_place log past ++ (e ∷ verdict_calls_after (calls_of e.caller.0 (e ∷ past)) (log e.caller.0)
+    in_place log past ++ (e ∷ verdict_calls_after (length (filter (is_by e.caller.0) (e ∷ past))) (log e.caller.0)
     ++ option_map_or (λ run. verdict_calls_after 0 (log run.0)) (started e) [])
 
 -- the verdict entries replied Ended of the runs below n, in the order of their numbers

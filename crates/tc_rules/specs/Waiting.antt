@@ -10,6 +10,10 @@ awaited (Op.Wait k t) = Some (record { killed = k; target = t })
 awaited (Op.Wake k t) = Some (record { killed = k; target = t })
 awaited _ = None
 
+-- the call that asks again for what a wait was for
+abbrev pub wake_op : Awaited → Op
+wake_op a = Op.Wake a.killed a.target
+
 -- what the caller waits for after this call: a Wait or Wake replied Parked
 abbrev pub parks : Op → Reply → Option Awaited
 parks op Reply.Parked = awaited op

@@ -1,6 +1,6 @@
 //! The report of a closed case.
 ghost use Rattle.std.specs.Prelude.{◌≡◌, Some};
-ghost use Rattle.tc_rules.specs.Report.{close_text};
+ghost use Rattle.tc_rules.specs.Report.{of_close, refusal_text};
 
 use crate::run_log::RunLog;
 use std::fmt;
@@ -37,7 +37,7 @@ pub enum CloseFault {
 impl CloseFault {
     /// The words that name the fault.
     pub fn text(self) -> &'static str
-        ensures { result.now ≡ close_text self }
+        ensures { result.now ≡ refusal_text (of_close self) }
     {
         match self {
             CloseFault::Torn => "torn",
@@ -47,7 +47,7 @@ impl CloseFault {
 }
 
 impl fmt::Display for CloseFault {
-    ghost output = { λ fault. Some (close_text fault) };
+    ghost output = { λ fault. Some (refusal_text (of_close fault)) };
 
     fn fmt<W: fmt::Write>(&self, f: &mut fmt::Formatter<W>) -> fmt::Result {
         f.write_str(self.text())

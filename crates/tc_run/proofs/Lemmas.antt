@@ -1,27 +1,18 @@
 -- The results of the test cases that were made of a script are those of the script.
-use Rattle.std.proofs.Common.{ℕ, zero, suc, ◌≡◌, ◌∙◌, ◌-◌, ◌⊎◌, inl, inr, List, [], ◌∷◌, Option, None, Some, All, length, map, take, arith, refl, sym, ap, subst}
-use Rattle.std.proofs.lemmas.List.{Elements.All-cons, Elements.All-nil, Elements.All-tail, length-map}
-use Rattle.std.specs.{Io.KnownBytes.Appends, List.AllZip, Vec.vec_len}
-use Rattle.std.specs.Prelude.{IfSome, slice_get}
+use Rattle.std.{proofs.{Common.{ℕ, zero, suc, ◌≡◌, ◌∙◌, ◌-◌, ◌⊎◌, inl, inr, List, [], ◌∷◌, Option, None, Some, All, length, map, take, arith, refl, sym, ap, subst}, lemmas.List.{Elements.{All-cons, All-nil, All-tail}, length-map}}, specs.{Io.KnownBytes.Appends, List.AllZip, Vec.vec_len, Prelude.{IfSome, slice_get}}}
 use Rattle.tc_stream.specs.Prelude.{AppendsPrefix}
-use Rattle.tc_rules.specs.Prelude.{Verdict}
+use Rattle.tc_rules.specs.{Prelude.Verdict, declared.refusal.CaseError.CaseError}
 use Rattle.tc_step.specs.Prelude.{ScriptView}
-use Rattle.tc_script.specs.Prelude.{Acts, MakesItsCalls}
-use Rattle.tc_script.proofs.Lemmas.{Reports.report_is_course, Running.run_grown, Spelled.are_called, Spelled.made_of_calls}
+use Rattle.tc_script.{specs.Prelude.{Acts, MakesItsCalls}, proofs.Lemmas.{Reports.report_is_course, Running.run_grown, Spelled.{are_called, made_of_calls}}}
 use Rattle.tc_reader.specs.Prelude.{IsCase}
 use Rattle.tc_book.specs.Prelude.{PassState}
-use Rattle.tc_exec.specs.declared.{job.Back.Back, test_case.Case.Case}
-use Rattle.tc_exec.specs.Prelude.{IsCaseReport, IsHandedBack, IsMadeOf}
-use Rattle.tc_exec.proofs.Lemmas.Logs.{logs_by}
-use Rattle.tc_report.specs.declared.{fault.OutFault.OutFault, live_form.LiveForm.LiveForm, results.CampaignEnd.CampaignEnd, results.Finished.Finished, results.Results.Results}
+use Rattle.tc_exec.{specs.{declared.{job.Back.Back, test_case.Case.Case}, Prelude.{IsCaseReport, IsHandedBack, IsMadeOf}}, proofs.Lemmas.Logs.logs_by}
+use Rattle.tc_report.specs.{declared.{fault.OutFault.OutFault, live_form.LiveForm.LiveForm, results.{CampaignEnd.CampaignEnd, Finished.Finished, Results.Results}, stopwatch.Times.Times}, Prelude.{LeavesPrefix, IsMet, IsToldBy}}
 use Rattle.tc_campaign.specs.Prelude.{AreBack, Outline, HasNames, outline_of, AreFinished, IsCalled, IsEnding, IsOfCase, IsRefusal as RefusesCase, IsRunTo}
 use Rattle.tc_campaign.specs.Inside.{IsReported}
-use Rattle.tc_report.specs.Prelude.{LeavesPrefix, IsMet}
-use Rattle.tc_rules.specs.declared.refusal.CaseError.{CaseError}
 use Rattle.tc_command.specs.declared.task.RunOptions.{RunOptions}
-use Rattle.tc_answer.specs.Prelude.{run_fault_line, IsPrintedRefusal, Streams, CaseView, scripts_of}
-use Rattle.tc_answer.specs.{Inside.IsCaseOf, Inside.names_of, declared.outcome.Outcome.Outcome}
-use Rattle.tc_run.specs.{Inside.worker_limit, Output.live_form, Output.of_output, Output.results_in_form, Run.AreScriptsBack, Run.IsLeft, Run.IsRun, Run.IsScripted, Run.IsUnwrittenRun, Run.RunsCases, Run.script_outline}
+use Rattle.tc_answer.specs.{Prelude.{run_fault_line, IsPrintedRefusal, Streams, CaseView, scripts_of}, Inside.{IsCaseOf, names_of}, declared.outcome.Outcome.Outcome}
+use Rattle.tc_run.specs.{Inside.worker_limit, Output.{live_form, of_output, results_in_form}, Run.{AreScriptsBack, IsLeft, IsRun, IsScripted, IsUnwrittenRun, RunsCases, TellsRun, case_names, script_outline}}
 
 count : (c : CaseView) (k : Case ScriptView) → IsCaseOf c k → vec_len k.jobs ≡ length c.1
 count c k is = omega (arith, ap length is.jobs, length-map c.1 (λ b. b.1))
@@ -47,7 +38,7 @@ outlines [] (k ∷ ks) each = absurd each
 outlines (c ∷ cs) [] each = absurd each
 outlines (c ∷ cs) (k ∷ ks) each = ap (λ o. o ∷ map outline_of ks) (same_outline c k each.0) ∙ ap (λ os. script_outline c ∷ os) (outlines cs ks each.1)
 
-same_names : (cs : List CaseView) (ks : List (Case ScriptView)) → AllZip IsCaseOf cs ks → map (λ k. (outline_of k).name) ks ≡ map (λ c. (script_outline c).name) cs
+same_names : (cs : List CaseView) (ks : List (Case ScriptView)) → AllZip IsCaseOf cs ks → case_names outline_of ks ≡ case_names script_outline cs
 same_names [] [] each = refl
 same_names [] (k ∷ ks) each = absurd each
 same_names (c ∷ cs) [] each = absurd each
@@ -127,20 +118,22 @@ module _ (o : RunOptions) (Are : List CaseView → Type 0) (cs : List CaseView) 
       results = run.results;
       right = results cs ks o.stop_on worker_limit lawful each run.results.finished run.results.ending run.right;
       status = run.status;
-      written = subst (λ ns. Appends streams.before streams.after (results_in_form o.form ns run.results)) (same_names cs ks each) run.written;
-      told = run.told;
+      times = run.times;
+      timed = run.timed;
+      written = subst (λ ns. Appends streams.before streams.after (results_in_form o.form run.times ns run.results)) (same_names cs ks each) run.written;
+      told = subst (λ ns. TellsRun o.progress (o.failures, ns) run.results streams.untold streams.told outcome.told) (same_names cs ks each) run.told;
     });
   }
 
-  left_of : (live : Option LiveForm) (s : Streams) (r : Results) (fault : OutFault) → IsLeft outline_of (IsCalled Acts) (AreBack Acts) ks o live s r fault
-      → IsLeft script_outline IsScripted AreScriptsBack cs o live s r fault
-  left_of None s r fault left = (
+  left_of : (live : Option LiveForm) (s : Streams) (t : Times) (r : Results) (fault : OutFault) → IsLeft outline_of (IsCalled Acts) (AreBack Acts) ks o live s t r fault
+      → IsLeft script_outline IsScripted AreScriptsBack cs o live s t r fault
+  left_of None s t r fault left = (
     results cs ks o.stop_on worker_limit lawful each r.finished r.ending left.0,
-    subst (λ ns. LeavesPrefix s.before s.after (results_in_form o.form ns r) fault) (same_names cs ks each) left.1,
+    subst (λ ns. LeavesPrefix s.before s.after (results_in_form o.form t ns r) fault) (same_names cs ks each) left.1,
   )
-  left_of (Some form) s r fault left = (
+  left_of (Some form) s t r fault left = (
     finished cs ks o.stop_on worker_limit lawful each r.finished left.0,
-    subst (λ ns. AppendsPrefix s.before s.after (results_in_form o.form ns r)) (same_names cs ks each) left.1,
+    subst (λ ns. AppendsPrefix s.before s.after (results_in_form o.form t ns r)) (same_names cs ks each) left.1,
   )
 
   -- and so is one whose results were not written whole
@@ -153,7 +146,13 @@ module _ (o : RunOptions) (Are : List CaseView → Type 0) (cs : List CaseView) 
     run = inr (record {
       fault = fault;
       between = streams.told;
-      run = record { results = run.results; left = left_of (live_form o.live o.form) streams run.results fault run.left; told = run.told };
+      run = record {
+        results = run.results;
+        times = run.times;
+        timed = run.timed;
+        left = left_of (live_form o.live o.form) streams run.times run.results fault run.left;
+        told = (run.told.0, subst (λ ns. IsToldBy o.progress (o.failures, ns) streams.untold streams.told run.results.finished run.told.0) (same_names cs ks each) run.told.1);
+      };
       refusal = refusal;
     });
   }

@@ -1,8 +1,7 @@
 -- What `run` writes.
-use Rattle.std.specs.Prelude.{ℕ, ◌≡◌, Bool, true, false, List, Option, Some, None, map}
-use Rattle.tc_report.specs.declared.{fault.OutFault.OutFault, live_form.LiveForm.LiveForm, results.Results.Results}
+use Rattle.std.specs.Prelude.{ℕ, ◌≡◌, Bool, true, false, List, Option, Some, None, length, map}
+use Rattle.tc_report.specs.{declared.{fault.OutFault.OutFault, live_form.LiveForm.LiveForm, results.Results.Results, stopwatch.Times.Times}, Prelude.{blocks_text, csv_of, report_text, LeavesPrefix, junit_of, no_times, case_summary, results_summaries}}
 use Rattle.tc_blocks.specs.declared.header.Kind.{Kind}
-use Rattle.tc_report.specs.Prelude.{blocks_text, csv_of, report_text, LeavesPrefix, junit_of, case_summary, results_summaries}
 use Rattle.tc_command.specs.declared.{command.TheConstants.VERSION, task.Form.Form}
 use Rattle.tc_answer.specs.declared.fault.RunFault.{RunFault}
 
@@ -16,13 +15,18 @@ live_form true Form.History = Some LiveForm.History
 live_form true Form.Evidence = Some LiveForm.Evidence
 live_form true (Form.Junit suite) = None
 
--- the text of the results of test cases with these names in this form
-abbrev pub results_in_form : Form → List (List ℕ) → Results → List ℕ
-results_in_form Form.Text names r = report_text r
-results_in_form Form.Csv names r = csv_of (map case_summary r.finished)
-results_in_form Form.History names r = blocks_text Kind.History2 r
-results_in_form Form.Evidence names r = blocks_text Kind.Evidence r
-results_in_form (Form.Junit suite) names r = junit_of VERSION.now suite (results_summaries names r)
+-- nothing is known of times, unless they are asked for: then there is one for each of n test cases, if a clock said it
+abbrev pub AreTimes : Bool → ℕ → Times → Type 0
+AreTimes false n times = times ≡ no_times
+AreTimes true n times = length times.cases ≡ n
+
+-- the text of the results of test cases with these names and times in this form
+abbrev pub results_in_form : Form → Times → List (List ℕ) → Results → List ℕ
+results_in_form Form.Text times names r = report_text r
+results_in_form Form.Csv times names r = csv_of (map case_summary r.finished)
+results_in_form Form.History times names r = blocks_text Kind.History2 r
+results_in_form Form.Evidence times names r = blocks_text Kind.Evidence r
+results_in_form (Form.Junit suite) times names r = junit_of VERSION.now suite times (results_summaries names r)
 
 -- the fault for an output that was not written whole
 abbrev pub of_output : OutFault → RunFault

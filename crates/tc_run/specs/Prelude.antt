@@ -1,3 +1,2 @@
 -- What other crates cite of these definitions.
-pub use Rattle.tc_run.specs.Output.{LeavesUnwritten, of_output, results_in_form}
-pub use Rattle.tc_run.specs.Run.{AreScriptsBack, IsRun, IsUnwrittenRun, RunsCases, IsScripted, script_outline}
+pub use Rattle.tc_run.specs.{Output.{LeavesUnwritten, of_output, results_in_form}, Run.{AreScriptsBack, IsRun, IsUnwrittenRun, RunsCases, IsScripted, script_outline}}

@@ -1,32 +1,33 @@
 -- The run of a campaign, what is written of it, and what the reports of its test cases say of their scripts.
-use Rattle.std.specs.Prelude.{ℕ, ◌≡◌, Bool, List, Option, Some, None, Result, map, ◌⊎◌, length}
-use Rattle.std.specs.{Io.KnownBytes.Appends, Result.result_and, Result.result_map_both}
+use Rattle.std.specs.{Prelude.{ℕ, ◌≡◌, Bool, List, Option, Some, None, Result, map, ◌⊎◌, length}, Io.KnownBytes.Appends, Result.{result_and, result_map_both}}
 use Rattle.tc_stream.specs.Prelude.{AppendsPrefix}
 use Rattle.tc_campaign.specs.Prelude.{Outline, AreFinished, IsRunTo}
-use Rattle.tc_report.specs.declared.{fault.OutFault.OutFault, live_form.LiveForm.LiveForm, results.Finished.Finished, results.Results.Results}
-use Rattle.tc_report.specs.Prelude.{abort_text, LeavesPrefix, IsToldBy, results_status}
+use Rattle.tc_report.specs.{declared.{fault.OutFault.OutFault, live_form.LiveForm.LiveForm, results.{Finished.Finished, Results.Results}, stopwatch.Times.Times}, Prelude.{abort_text, LeavesPrefix, IsToldBy, results_status}}
 use Rattle.tc_command.specs.declared.task.RunOptions.{RunOptions}
-use Rattle.tc_answer.specs.declared.{fault.RunFault.RunFault, outcome.Outcome.Outcome}
+use Rattle.tc_answer.specs.{declared.{fault.RunFault.RunFault, outcome.Outcome.Outcome}, Prelude.{Streams, IsTold, run_fault_line, IsPrintedRefusal, CaseView, scripts_of}}
 use Rattle.tc_entry.specs.declared.limits.TheConstants.{BEHAVIOURS}
-use Rattle.tc_answer.specs.Prelude.{Streams, IsTold, run_fault_line, IsPrintedRefusal, CaseView, scripts_of}
 use Rattle.tc_exec.specs.Prelude.{AreCalled, IsHandedBack, IsMadeOf, AreLogsBy}
 use Rattle.tc_script.specs.Prelude.{Acts, MakesItsCalls}
 use Rattle.tc_course.specs.Prelude.{IsWitness}
-use Rattle.tc_run.specs.Output.{of_output, live_form, results_in_form}
+use Rattle.tc_run.specs.Output.{AreTimes, of_output, live_form, results_in_form}
 
 -- by this answer, which has the first fault, a run has printed what is due of its test cases as they finish, and after it the
 -- line for a campaign that was aborted
-pub record TellsRun (progress : Bool) (r : Results) (untold told : Option (List ℕ)) (answer : Result (Unit {0}) RunFault) : Type 0 where
+pub record TellsRun (progress : Bool) (shown : Bool × List (List ℕ)) (r : Results) (untold told : Option (List ℕ)) (answer : Result (Unit {0}) RunFault) : Type 0 where
   pub between : Option (List ℕ)
   pub telling : Result (Unit {0}) OutFault
-  pub cases_told : IsToldBy progress untold between r.finished telling
+  pub cases_told : IsToldBy progress shown untold between r.finished telling
   pub line : Result (Unit {0}) RunFault
   pub line_told : IsTold between told (abort_text r.ending) line
   pub first : answer ≡ result_and (result_map_both (λ x. x) of_output telling) line
 
--- the text of the results of these cases, in the form asked for
-abbrev pub results_text : {C : Type 0} → (C → Outline) → List C → RunOptions → Results → List ℕ
-results_text outline cases options r = results_in_form options.form (map (λ c. (outline c).name) cases) r
+-- the names of these cases, in their order
+abbrev pub case_names : {C : Type 0} → (C → Outline) → List C → List (List ℕ)
+case_names outline cases = map (λ c. (outline c).name) cases
+
+-- the text of the results of these cases, in the form asked for, with these times
+abbrev pub results_text : {C : Type 0} → (C → Outline) → List C → RunOptions → Times → Results → List ℕ
+results_text outline cases options times r = results_in_form options.form times (case_names outline cases) r
 
 module _ {C : Type 0} (outline : C → Outline) (called : C → Finished → Type 0) (back : C → Type 0) (cases : List C) (options : RunOptions) where
   -- these cases were run under these options, and the results were given
@@ -35,26 +36,30 @@ module _ {C : Type 0} (outline : C → Outline) (called : C → Finished → Typ
     pub right : IsRunTo outline called cases options.stop_on BEHAVIOURS back results.finished results.ending
     -- the outcome has their status
     pub status : outcome.status ≡ results_status results
-    -- their text was written in the form asked for
-    pub written : Appends streams.before streams.after (results_text outline cases options results)
+    -- their text was written in the form asked for, with times if these are asked for
+    pub times : Times
+    pub timed : AreTimes options.times (length results.finished) times
+    pub written : Appends streams.before streams.after (results_text outline cases options times results)
     -- what is due on standard error was printed, as the outcome says
-    pub told : TellsRun options.progress results streams.untold streams.told outcome.told
+    pub told : TellsRun options.progress (options.failures, case_names outline cases) results streams.untold streams.told outcome.told
 
   -- by this fault the text of the results was not written whole: at the end, or as the test cases finished. Then a
   -- prefix of it is out, and the fault may have ended the campaign.
-  abbrev pub IsLeft : Option LiveForm → Streams → Results → OutFault → Type 0
-  IsLeft None s r fault =
+  abbrev pub IsLeft : Option LiveForm → Streams → Times → Results → OutFault → Type 0
+  IsLeft None s times r fault =
       IsRunTo outline called cases options.stop_on BEHAVIOURS back r.finished r.ending
-      × LeavesPrefix s.before s.after (results_text outline cases options r) fault
-  IsLeft (Some form) s r fault =
-      AreFinished outline called cases options.stop_on BEHAVIOURS r.finished × AppendsPrefix s.before s.after (results_text outline cases options r)
+      × LeavesPrefix s.before s.after (results_text outline cases options times r) fault
+  IsLeft (Some form) s times r fault =
+      AreFinished outline called cases options.stop_on BEHAVIOURS r.finished × AppendsPrefix s.before s.after (results_text outline cases options times r)
 
   -- these cases were run under these options, and the text of the results was not written whole; what is due of them was
   -- printed, or not all of it
   pub record IsUnwrittenRun (streams : Streams) (fault : OutFault) : Type 0 where
     pub results : Results
-    pub left : IsLeft (live_form options.live options.form) streams results fault
-    pub told : (telling : Result (Unit {0}) OutFault) × IsToldBy options.progress streams.untold streams.told results.finished telling
+    pub times : Times
+    pub timed : AreTimes options.times (length results.finished) times
+    pub left : IsLeft (live_form options.live options.form) streams times results fault
+    pub told : (telling : Result (Unit {0}) OutFault) × IsToldBy options.progress (options.failures, case_names outline cases) streams.untold streams.told results.finished telling
 
 module _ {C : Type 0} (outline : C → Outline) (called : C → Finished → Type 0) (back : C → Type 0) (AreToBeRun : List C → Type 0) (o : RunOptions) (streams : Streams) (outcome : Outcome) where
   -- the results of these test cases were not written whole, and that is printed after what was printed of them

@@ -1,13 +1,9 @@
 -- What the answer to a step's call says of the pass after it.
-use Rattle.std.proofs.Common.{ℕ, ◌≡◌, ◌∙◌, inl, inr, ◌++◌, Bool, true, false, not, is_ok, Option, MatchOption, List, [], ◌∷◌, length, Result, Ok, Err, refl, sym, ap}
-use Rattle.std.proofs.lemmas.{Bool.or_left, Bool.or_right, List.Folds.list_any-append}
-use Rattle.std.specs.List.{list_any}
+use Rattle.std.{proofs.{Common.{ℕ, ◌≡◌, ◌∙◌, inl, inr, ◌++◌, Bool, true, false, not, is_ok, Option, MatchOption, List, [], ◌∷◌, length, Result, Ok, Err, refl, sym, ap}, lemmas.{Bool.{or_left, or_right}, List.Folds.list_any-append}}, specs.List.list_any}
 use Rattle.tc_rules.specs.Prelude.{Run, NoMemory, Comp, Op, Fault, Reply, ends_pass, is_parked}
-use Rattle.tc_step.specs.declared.{place.Place.Place, place.TargetPlace.TargetPlace, step.Step.Step}
-use Rattle.tc_step.specs.Prelude.{operation, target, count_after}
-use Rattle.tc_book.specs.Prelude.{IsCall, IsWait, PassState, Waits, has_ended, entry_of, with_own_entry, reply_of}
-use Rattle.tc_book.specs.declared.halt.Halt.{Halt}
-use Rattle.tc_script.specs.{Calls.Calls, Calls.bound_after, Inside.Carried, Inside.IsStepped, Inside.creates, Inside.is_refused, Inside.waits}
+use Rattle.tc_step.specs.{declared.{place.{Place.Place, TargetPlace.TargetPlace}, step.Step.Step}, Prelude.{operation, target, count_after}}
+use Rattle.tc_book.specs.{Prelude.{IsCall, IsWait, PassState, Waits, has_ended, entry_of, with_own_entry, reply_of}, declared.halt.Halt.Halt}
+use Rattle.tc_script.specs.{Calls.{Calls, bound_after}, Inside.{Carried, IsStepped, creates, is_refused, waits}}
 
 pub carried : {A : Type 0} (said : A → Reply) (P Q : Reply → Type 0) (same same-new : Type 0) (answer : Result A Halt) (result : Result (Unit {0}) NoMemory)
     → MatchOption (reply_of said answer) same P → is_ok result ≡ not (is_refused answer) → ((r : Reply) → P r → Q r) → (same → same-new) → Carried Q same-new result
@@ -15,56 +11,27 @@ carried said P Q same same-new (Ok a) (Ok u) by is more less = (said a, more (sa
 carried said P Q same same-new (Err Halt.Ended) (Ok u) by is more less = (Reply.Ended, more Reply.Ended by)
 carried said P Q same same-new (Err (Halt.Fault f)) (Ok u) by is more less = (Reply.Fault f, more (Reply.Fault f) by)
 carried said P Q same same-new (Err Halt.NoMemory) (Ok u) by is more less = absurd (cc)
-carried said P Q same same-new (Ok a) (Err e) by is more less = absurd (cc)
-carried said P Q same same-new (Err Halt.Ended) (Err e) by is more less = absurd (cc)
-carried said P Q same same-new (Err (Halt.Fault f)) (Err e) by is more less = absurd (cc)
 carried said P Q same same-new (Err Halt.NoMemory) (Err e) by is more less = less by
+carried said P Q same same-new _ (Err e) by is more less = absurd (cc)
 
 -- a step's call changes no argument
 args_same : (s : Step) (bound : List Comp) (p q : PassState) (r : Reply) → Calls bound s p q r → q.args ≡ p.args
 args_same (Step.Create alive name) bound p q r is = ap (λ x. x.args) is
-args_same (Step.Start on run args) bound p q r is = ap (λ x. x.args) is
-args_same (Step.Stop g) bound p q r is = ap (λ x. x.args) is
-args_same (Step.Kill g) bound p q r is = ap (λ x. x.args) is
-args_same (Step.Ask status t) bound p q r is = ap (λ x. x.args) is
 args_same (Step.Wait killed t) bound p q r (inl is, awake) = ap (λ x. x.args) is
 args_same (Step.Wait killed t) bound p q r (inr is, awake) = ap (λ x. x.args) is
-args_same (Step.SetVerdict v) bound p q r is = ap (λ x. x.args) is
-args_same Step.StopCase bound p q r is = ap (λ x. x.args) is
-args_same Step.GetVerdict bound p q r is = ap (λ x. x.args) is
+args_same _ bound p q r is = ap (λ x. x.args) is
 
 binds_none : (s : Step) (r : Reply) (bound : List Comp) → creates s ≡ false → bound_after s r bound ≡ bound
 binds_none (Step.Create alive name) r bound is = absurd (cc)
-binds_none (Step.Start on run args) r bound is = refl
-binds_none (Step.Stop g) r bound is = refl
-binds_none (Step.Kill g) r bound is = refl
-binds_none (Step.Ask status t) r bound is = refl
-binds_none (Step.Wait killed t) r bound is = refl
-binds_none (Step.SetVerdict v) r bound is = refl
-binds_none Step.StopCase r bound is = refl
-binds_none Step.GetVerdict r bound is = refl
+binds_none _ r bound is = refl
 
 counts_none : (s : Step) (n : ℕ) → creates s ≡ false → count_after n s ≡ n
 counts_none (Step.Create alive name) n is = absurd (cc)
-counts_none (Step.Start on run args) n is = refl
-counts_none (Step.Stop g) n is = refl
-counts_none (Step.Kill g) n is = refl
-counts_none (Step.Ask status t) n is = refl
-counts_none (Step.Wait killed t) n is = refl
-counts_none (Step.SetVerdict v) n is = refl
-counts_none Step.StopCase n is = refl
-counts_none Step.GetVerdict n is = refl
+counts_none _ n is = refl
 
 calls_plain : (s : Step) (bound : List Comp) (p q : PassState) (r : Reply) → waits s ≡ false → q ≡ with_own_entry p (operation p.me bound s) r → Calls bound s p q r
-calls_plain (Step.Create alive name) bound p q r other is = is
-calls_plain (Step.Start on run args) bound p q r other is = is
-calls_plain (Step.Stop g) bound p q r other is = is
-calls_plain (Step.Kill g) bound p q r other is = is
-calls_plain (Step.Ask status t) bound p q r other is = is
 calls_plain (Step.Wait killed t) bound p q r other is = absurd (cc)
-calls_plain (Step.SetVerdict v) bound p q r other is = is
-calls_plain Step.StopCase bound p q r other is = is
-calls_plain Step.GetVerdict bound p q r other is = is
+calls_plain _ bound p q r other is = is
 
 -- a step that creates nothing
 pub stepped : (s : Step) (made : List Comp) (p q : PassState) (r : Reply) → creates s ≡ false → Calls (p.args ++ made) s p q r → IsStepped s (p.args ++ made) p (q.args ++ made) q r
@@ -88,10 +55,8 @@ plain_step said s op made p q answer result call is same on quiet no-wait =
 -- what a wait is answered by is not that it was parked
 awake : (P : Reply → Type 0) (same : Type 0) (answer : Result (Unit {0}) Halt)
     → MatchOption (reply_of (λ _. Reply.Matched) answer) same P → MatchOption (reply_of (λ _. Reply.Matched) answer) same (λ r. P r × (is_parked r ≡ false))
-awake P same (Ok a) by = (by, refl)
-awake P same (Err Halt.Ended) by = (by, refl)
-awake P same (Err (Halt.Fault f)) by = (by, refl)
 awake P same (Err Halt.NoMemory) by = by
+awake P same _ by = (by, refl)
 
 -- a wait
 pub wait_step : (killed : Bool) (t : TargetPlace (Place ℕ)) (made : List Comp) (p q : PassState) (answer : Result (Unit {0}) Halt) (result : Result (Unit {0}) NoMemory)
@@ -135,7 +100,6 @@ create_halted alive name made made-new p q Halt.NoMemory (Err e) is on call same
 create_halted alive name made made-new p q Halt.NoMemory (Ok u) is on call same = absurd (cc)
 create_halted alive name made made-new p q Halt.Ended (Ok u) is on call same =
     rw same (Reply.Ended, halted_at alive name made p q Reply.Ended refl (ended_ends p.me p.run (Op.Create alive name)) (call.replied on))
-create_halted alive name made made-new p q Halt.Ended (Err e) is on call same = absurd (cc)
 create_halted alive name made made-new p q (Halt.Fault f) (Ok u) is on call same =
     rw same (Reply.Fault f, halted_at alive name made p q (Reply.Fault f) refl (fault_ends p.me p.run (Op.Create alive name) f) (call.replied on))
-create_halted alive name made made-new p q (Halt.Fault f) (Err e) is on call same = absurd (cc)
+create_halted alive name made made-new p q _ (Err e) is on call same = absurd (cc)

@@ -1,16 +1,11 @@
 -- Each Start that a script makes gives as many arguments as the behaviour of its run has parameters, if its steps say
 -- so.
-use Rattle.std.proofs.Common.{◌≡◌, ◌∙◌, ◌==◌, inl, inr, Bool, true, false, Some, List, [], ◌∷◌, All, length, refl, sym, ap, subst, arith}
-use Rattle.std.specs.Prelude.{slice_get}
-use Rattle.std.specs.Option.{option_map}
-use Rattle.std.proofs.lemmas.{Bool.Decides.nat_tests, List.Elements.All-append, List.Elements.All-cons, List.Elements.All-nil, List.Elements.All-tail, List.length-map}
+use Rattle.std.{proofs.{Common.{◌≡◌, ◌∙◌, ◌==◌, inl, inr, Bool, true, false, Some, List, [], ◌∷◌, All, length, refl, sym, ap, subst, arith}, lemmas.{Bool.Decides.nat_tests, List.{Elements.{All-append, All-cons, All-nil, All-tail}, length-map}}}, specs.{Prelude.slice_get, Option.option_map}}
 use Rattle.tc_rules.specs.Prelude.{Run, Comp, Entry, Op, Target, Reply}
-use Rattle.tc_step.specs.declared.step.{Status.Status, Step.Step}
-use Rattle.tc_step.specs.Prelude.{operation, question, target, component, ScriptView}
+use Rattle.tc_step.specs.{declared.step.{Status.Status, Step.Step}, Prelude.{operation, question, target, component, ScriptView}}
 use Rattle.tc_reader.specs.Prelude.{Head, StartsOne}
 use Rattle.tc_book.specs.Prelude.{PassState, LeftState, has_ended, with_own_entry, entry_of}
-use Rattle.tc_exec.specs.declared.job.Back.{Back}
-use Rattle.tc_exec.specs.Prelude.{HasLeft, IsLeftBy}
+use Rattle.tc_exec.specs.{declared.job.Back.Back, Prelude.{HasLeft, IsLeftBy}}
 use Rattle.tc_script.specs.Calls.{Acts, Calls, HasCalled, none, one_more}
 
 -- a Start is of a behaviour with as many parameters as it gives arguments
@@ -27,20 +22,12 @@ give_none hs = All-nil (λ e. GivesAll hs e.op)
 
 question_gives : (hs : List Head) (status : Status) (t : Target) → GivesAll hs (question status t)
 question_gives hs Status.Running t = tt
-question_gives hs Status.Alive t = tt
-question_gives hs Status.Done t = tt
-question_gives hs Status.Killed t = tt
+question_gives hs _ t = tt
 
 operation_gives : (hs : List Head) (me : Comp) (bound : List Comp) (s : Step) → StartsOne hs s → GivesAll hs (operation me bound s)
-operation_gives hs me bound (Step.Create alive name) one = tt
 operation_gives hs me bound (Step.Start on run args) one = one ∙ ap Some (sym (length-map args (component me bound)))
-operation_gives hs me bound (Step.Stop g) one = tt
-operation_gives hs me bound (Step.Kill g) one = tt
 operation_gives hs me bound (Step.Ask status t) one = question_gives hs status (target me bound t)
-operation_gives hs me bound (Step.Wait killed t) one = tt
-operation_gives hs me bound (Step.SetVerdict v) one = tt
-operation_gives hs me bound Step.StopCase one = tt
-operation_gives hs me bound Step.GetVerdict one = tt
+operation_gives hs me bound _ one = tt
 
 -- one entry more
 added_gives : (hs : List Head) (p q : PassState) (op : Op) (r : Reply) → q ≡ with_own_entry p op r → GivesAll hs op → GiveAll hs p.log → GiveAll hs q.log
@@ -51,12 +38,8 @@ added_gives hs p q op r is one all =
 
 -- the call of one step
 call_gives : (hs : List Head) (s : Step) (bound : List Comp) (p q : PassState) (r : Reply) → StartsOne hs s → Calls bound s p q r → GiveAll hs p.log → GiveAll hs q.log
-call_gives hs (Step.Create alive name) bound p q r one is all = added_gives hs p q (operation p.me bound (Step.Create alive name)) r is (operation_gives hs p.me bound (Step.Create alive name) one) all
 call_gives hs (Step.Start on run args) bound p q r one is all =
     added_gives hs p q (operation p.me bound (Step.Start on run args)) r is (operation_gives hs p.me bound (Step.Start on run args) one) all
-call_gives hs (Step.Stop g) bound p q r one is all = added_gives hs p q (operation p.me bound (Step.Stop g)) r is (operation_gives hs p.me bound (Step.Stop g) one) all
-call_gives hs (Step.Kill g) bound p q r one is all = added_gives hs p q (operation p.me bound (Step.Kill g)) r is (operation_gives hs p.me bound (Step.Kill g) one) all
-call_gives hs (Step.Ask status t) bound p q r one is all = added_gives hs p q (operation p.me bound (Step.Ask status t)) r is (operation_gives hs p.me bound (Step.Ask status t) one) all
 call_gives hs (Step.Wait killed t) bound p q r one (inl is, awake) all = added_gives hs p q (Op.Wait killed (target p.me bound t)) r is tt all
 call_gives hs (Step.Wait killed t) bound p q r one (inr is, awake) all =
     let parked : PassState = with_own_entry p (Op.Wait killed (target p.me bound t)) Reply.Parked in
@@ -64,6 +47,7 @@ call_gives hs (Step.Wait killed t) bound p q r one (inr is, awake) all =
 call_gives hs (Step.SetVerdict v) bound p q r one is all = added_gives hs p q (Op.SetVerdict v) r is tt all
 call_gives hs Step.StopCase bound p q r one is all = added_gives hs p q Op.StopCase r is tt all
 call_gives hs Step.GetVerdict bound p q r one is all = added_gives hs p q Op.GetVerdict r is tt all
+call_gives hs step bound p q r one is all = added_gives hs p q (operation p.me bound step) r is (operation_gives hs p.me bound step one) all
 
 -- the calls of the first steps, and the steps that are left
 calls_give : (hs : List Head) (steps : List Step) (start : PassState) (left : List Step) (bound : List Comp) (now : PassState)
@@ -93,5 +77,5 @@ left_gives hs p l left all = by (has_ended p) refl
 
 -- what the worker of a run left
 pub worker_gives : (hs : List Head) (run : Run) (s : ScriptView) (l : LeftState) → All (StartsOne hs) s.steps → IsLeftBy Acts run s l → GiveAll hs l.log
-worker_gives hs run s l ones (inl unstarted) = subst (GiveAll hs) (sym (ap (λ h. h.left.log) unstarted)) (give_none hs)
-worker_gives hs run s l ones (inr w) = left_gives hs w.called.back.pass l w.called.left (back_gives hs s w.pass w.called.back ones w.new w.called.outcome_of)
+worker_gives hs run s l ones (inl unstarted) = subst (GiveAll hs) (sym (ap (λ m. m.log) unstarted)) (give_none hs)
+worker_gives hs run s l ones (inr w) = left_gives hs w.0.handed.pass l w.0.left (back_gives hs s w.0.given w.0.handed ones w.0.new w.0.outcome_of)

@@ -1,17 +1,10 @@
 -- The log of a run of a script is what the run calls, one turn after the other, until its pass has ended.
-use Rattle.std.proofs.Common.{ℕ, ◌≡◌, ◌∙◌, ◌+◌, ◌++◌, ◌||◌, ◌==◌, inl, inr, Bool, true, false, Option, Some, None, List, [], ◌∷◌, length, slice_get, refl, sym, ap, subst, arith, append_assoc}
-use Rattle.std.proofs.lemmas.{List.Folds.list_any-append, List.append-nil, List.length-append, Option.slice_get_past}
-use Rattle.std.specs.Option.{unwrap_or, option_to_list}
-use Rattle.tc_rules.specs.Prelude.{Run, Comp, Entry, Op, Target, Reply, is_ended, is_fault, is_ok, is_parked, is_wake, created, ends_pass}
-use Rattle.tc_step.specs.declared.{place.Place.Place, place.TargetPlace.TargetPlace, step.Status.Status, step.Step.Step}
-use Rattle.tc_step.specs.Prelude.{operation, target, ScriptView}
-use Rattle.tc_rules.proofs.Lemmas.Deciding.{self_equal}
+use Rattle.std.{proofs.{Common.{ℕ, ◌≡◌, ◌∙◌, ◌+◌, ◌++◌, ◌||◌, ◌==◌, inl, inr, Bool, true, false, Option, Some, None, List, [], ◌∷◌, length, slice_get, refl, sym, ap, subst, arith, append_assoc}, lemmas.{List.{Folds.list_any-append, append-nil, length-append}, Option.slice_get_past}}, specs.Option.{unwrap_or, option_to_list}}
+use Rattle.tc_rules.{specs.Prelude.{Run, Comp, Entry, Op, Target, Reply, is_ended, is_fault, is_ok, is_parked, is_wake, created, ends_pass}, proofs.Lemmas.Deciding.self_equal}
+use Rattle.tc_step.specs.{declared.{place.{Place.Place, TargetPlace.TargetPlace}, step.{Status.Status, Step.Step}}, Prelude.{operation, target, ScriptView}}
 use Rattle.tc_book.specs.Prelude.{PassState, LeftState, has_ended, with_own_entry, entry_of}
-use Rattle.tc_exec.specs.declared.job.{Back.Back, Ending.Ending}
-use Rattle.tc_exec.specs.Prelude.{HasLeft}
-use Rattle.tc_course.specs.Prelude.{CourseState, after_own, is_idle, turn_on}
-use Rattle.tc_course.specs.Inside.{call_of, wake_for, wake_if}
-use Rattle.tc_course.proofs.Lemmas.{other_not_idle}
+use Rattle.tc_exec.specs.{declared.job.{Back.Back, Ending.Ending}, Prelude.HasLeft}
+use Rattle.tc_course.{specs.{Prelude.{CourseState, after_own, is_idle, turn_on}, Inside.{call_of, wake_for, wake_if}}, proofs.Lemmas.other_not_idle}
 use Rattle.tc_script.specs.Calls.{MakesItsCalls, Calls, HasCalled, bound_after, ending, none, one_more}
 
 -- ---- a run and its own entries
@@ -73,34 +66,16 @@ ended_added p op r on =
 -- after a reply that is not Parked no Wake is to come
 not_parked : (op : Op) (r : Reply) → is_parked r ≡ false → wake_if op r ≡ None
 not_parked op Reply.Parked h = absurd cc
-not_parked op (Reply.Made c) h = refl
-not_parked op Reply.Ok h = refl
-not_parked op (Reply.Answer a) h = refl
-not_parked op (Reply.Local v) h = refl
-not_parked op Reply.Matched h = refl
-not_parked op Reply.Ended h = refl
-not_parked op (Reply.Fault f) h = refl
+not_parked op _ h = refl
 
 -- nor after a call that does not wait
 no_wait : (op : Op) (r : Reply) → wake_for op ≡ None → wake_if op r ≡ None
 no_wait op Reply.Parked h = h
-no_wait op (Reply.Made c) h = refl
-no_wait op Reply.Ok h = refl
-no_wait op (Reply.Answer a) h = refl
-no_wait op (Reply.Local v) h = refl
-no_wait op Reply.Matched h = refl
-no_wait op Reply.Ended h = refl
-no_wait op (Reply.Fault f) h = refl
+no_wait op _ h = refl
 
 create_binds : (alive : Bool) (name : Option (List ℕ)) (r : Reply) (bound : List Comp) → bound_after (Step.Create alive name) r bound ≡ bound ++ option_to_list (created (Op.Create alive name) r)
 create_binds alive name (Reply.Made c) bound = refl
-create_binds alive name Reply.Parked bound = sym (append-nil bound)
-create_binds alive name Reply.Ok bound = sym (append-nil bound)
-create_binds alive name (Reply.Answer a) bound = sym (append-nil bound)
-create_binds alive name (Reply.Local v) bound = sym (append-nil bound)
-create_binds alive name Reply.Matched bound = sym (append-nil bound)
-create_binds alive name Reply.Ended bound = sym (append-nil bound)
-create_binds alive name (Reply.Fault f) bound = sym (append-nil bound)
+create_binds alive name _ bound = sym (append-nil bound)
 
 own_call : (me : Comp) (bound bound-new : List Comp) (k : ℕ) (run : Run) (op : Op) (r : Reply) → is_wake op ≡ false → wake_if op r ≡ None → bound-new ≡ bound ++ option_to_list (created op r)
     → after_own (entry_of run op r) (standing me bound k false) ≡ standing me bound-new (k + 1) (ends_pass me (entry_of run op r))
@@ -174,13 +149,7 @@ woken_own me bound k run killed t r awake =
 
 awake_not_idle : (op : Op) (r : Reply) → is_parked r ≡ false → is_idle op r ≡ false
 awake_not_idle op Reply.Parked h = absurd cc
-awake_not_idle op (Reply.Made c) h = refl
-awake_not_idle op Reply.Ok h = refl
-awake_not_idle op (Reply.Answer a) h = refl
-awake_not_idle op (Reply.Local v) h = refl
-awake_not_idle op Reply.Matched h = refl
-awake_not_idle op Reply.Ended h = refl
-awake_not_idle op (Reply.Fault f) h = refl
+awake_not_idle op _ h = refl
 
 wake_turn : (steps : List Step) (me : Comp) (bound : List Comp) (k : ℕ) (run : Run) (wake : Op) (r : Reply) → is_parked r ≡ false → IsOwnTurn steps (waits_at me bound k wake) (entry_of run wake r)
 unfolding waits_at
@@ -225,8 +194,6 @@ step_at steps (Step.Create alive name) left bound p q r is on calls =
     plain_at steps (Step.Create alive name) left bound p is on (bound_after (Step.Create alive name) r bound) q (Op.Create alive name) r refl refl (no_wait (Op.Create alive name) r refl) (create_binds alive name r bound) calls
 step_at steps (Step.Start c run args) left bound p q r is on calls =
     calm_at steps (Step.Start c run args) left bound p is on q (operation p.me bound (Step.Start c run args)) r refl refl refl refl calls
-step_at steps (Step.Stop g) left bound p q r is on calls = calm_at steps (Step.Stop g) left bound p is on q (operation p.me bound (Step.Stop g)) r refl refl refl refl calls
-step_at steps (Step.Kill g) left bound p q r is on calls = calm_at steps (Step.Kill g) left bound p is on q (operation p.me bound (Step.Kill g)) r refl refl refl refl calls
 step_at steps (Step.Ask Status.Running t) left bound p q r is on calls = calm_at steps (Step.Ask Status.Running t) left bound p is on q (Op.Running (target p.me bound t)) r refl refl refl refl calls
 step_at steps (Step.Ask Status.Alive t) left bound p q r is on calls = calm_at steps (Step.Ask Status.Alive t) left bound p is on q (Op.Alive (target p.me bound t)) r refl refl refl refl calls
 step_at steps (Step.Ask Status.Done t) left bound p q r is on calls = calm_at steps (Step.Ask Status.Done t) left bound p is on q (Op.Done (target p.me bound t)) r refl refl refl refl calls
@@ -237,6 +204,7 @@ step_at steps (Step.Wait killed t) left bound p q r is on (inr two, awake) = wai
 step_at steps (Step.SetVerdict v) left bound p q r is on calls = calm_at steps (Step.SetVerdict v) left bound p is on q (Op.SetVerdict v) r refl refl refl refl calls
 step_at steps Step.StopCase left bound p q r is on calls = calm_at steps Step.StopCase left bound p is on q Op.StopCase r refl refl refl refl calls
 step_at steps Step.GetVerdict left bound p q r is on calls = calm_at steps Step.GetVerdict left bound p is on q Op.GetVerdict r refl refl refl refl calls
+step_at steps step left bound p q r is on calls = calm_at steps step left bound p is on q (operation p.me bound step) r refl refl refl refl calls
 
 calls_at : (steps : List Step) (start : PassState) (left : List Step) (bound : List Comp) (now : PassState) → start.log ≡ [] → HasCalled steps start left bound now → IsAt steps left bound now
 calls_at steps start _ _ _ new none = record { front = []; steps_are = refl; stands = rw new refl; turns = rw new tt }
@@ -258,16 +226,12 @@ finish_ends : (me : Comp) (run : Run) (r : Reply) → (is_ok r || is_ended r || 
 unfolding ends_pass
 finish_ends me run Reply.Ended h = refl
 finish_ends me run (Reply.Fault f) h = refl
-finish_ends me run Reply.Parked h = absurd cc
-finish_ends me run (Reply.Made c) h = absurd cc
-finish_ends me run (Reply.Answer a) h = absurd cc
-finish_ends me run (Reply.Local v) h = absurd cc
-finish_ends me run Reply.Matched h = absurd cc
 finish_ends me run Reply.Ok h = by (run.0 == 0) refl
   where
     by : (t : Bool) → (run.0 == 0) ≡ t → ends_pass me (entry_of run Op.Finish Reply.Ok) ≡ true
     by true is = rw is refl
     by false is = rw (is, self_equal me.0) refl
+finish_ends me run _ h = absurd cc
 
 -- the log that a run of a script has left
 pub log_left : (s : ScriptView) (p : PassState) (b : Back) (l : LeftState) → p.log ≡ [] → MakesItsCalls s p b → Ending.Returned ≡ b.ending → HasLeft b.pass l
@@ -293,9 +257,9 @@ log_left s p b l new makes back left = by (has_ended b.pass) refl
         let e : Entry = entry_of b.pass.run Op.Finish f.0 in
         let none_left : makes.calls.left ≡ [] = all_called makes.calls.left (back ∙ (makes.calls.ending_is ∙ ap (λ t. ending t makes.calls.left) is)) in
         let front : s.steps ≡ at.front = at.steps_are ∙ (ap (λ x. at.front ++ x) none_left ∙ append-nil at.front) in
-        let behind : slice_get s.steps (length at.front) ≡ None = slice_get_past s.steps (length at.front) (omega (arith, ap length front)) in
+        let no_step : slice_get s.steps (length at.front) ≡ None = slice_get_past s.steps (length at.front) (omega (arith, ap length front)) in
         let stands : after_all start b.pass.log ≡ standing me makes.calls.bound (length at.front) false = at.stands ∙ ap (standing me makes.calls.bound (length at.front)) is in
-        let turn : turn_on (Some me) s.steps (standing me makes.calls.bound (length at.front) false) ≡ Some Op.Finish = ap (λ o. Some (unwrap_or None (call_of me makes.calls.bound o))) behind in
+        let turn : turn_on (Some me) s.steps (standing me makes.calls.bound (length at.front) false) ≡ Some Op.Finish = ap (λ o. Some (unwrap_or None (call_of me makes.calls.bound o))) no_step in
         let own : IsOwnTurn s.steps (after_all start b.pass.log) e =
         subst (λ st. IsOwnTurn s.steps st e) (sym stands) (record { turn = turn; not_idle = other_not_idle Op.Finish f.0 refl }) in
         let ends : (after_own e (standing me makes.calls.bound (length at.front) false)).left ≡ true = finish_ends me b.pass.run f.0 f.2 in

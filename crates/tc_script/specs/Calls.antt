@@ -1,8 +1,7 @@
 -- What the steps of a script call, the pass that comes of it, and what a script does with the pass of its run.
 use Rattle.std.specs.Prelude.{◌≡◌, ◌++◌, ◌∷◌, [], Bool, false, List, ◌≢◌, length}
 use Rattle.tc_rules.specs.Prelude.{Comp, Reply, is_parked}
-use Rattle.tc_step.specs.declared.step.Step.{Step}
-use Rattle.tc_step.specs.Prelude.{operation, target, ScriptView}
+use Rattle.tc_step.specs.{declared.step.Step.Step, Prelude.{operation, target, ScriptView}}
 use Rattle.tc_book.specs.Prelude.{PassState, has_ended, with_own_entry, Waits}
 use Rattle.tc_exec.specs.declared.job.{Back.Back, Ending.Ending}
 

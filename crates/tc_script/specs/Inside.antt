@@ -1,10 +1,8 @@
 -- What the functions inside of a run say, which no public clause names.
 use Rattle.std.specs.Prelude.{◌≡◌, ◌++◌, Bool, true, false, List, Result, Ok, Err, length}
 use Rattle.tc_rules.specs.Prelude.{NoMemory, Comp, Entry, Reply}
-use Rattle.tc_step.specs.declared.step.Step.{Step}
-use Rattle.tc_step.specs.Prelude.{count_after, AreBound}
-use Rattle.tc_book.specs.Prelude.{PassState, has_ended}
-use Rattle.tc_book.specs.declared.halt.Halt.{Halt}
+use Rattle.tc_step.specs.{declared.step.Step.Step, Prelude.{count_after, AreBound}}
+use Rattle.tc_book.specs.{Prelude.{PassState, has_ended}, declared.halt.Halt.Halt}
 use Rattle.tc_exec.specs.declared.job.Ending.{Ending}
 use Rattle.tc_script.specs.Calls.{Calls, bound_after, HasCalled}
 

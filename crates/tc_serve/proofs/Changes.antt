@@ -1,13 +1,9 @@
 -- What a line changes, and what it adds to the text.
-use Rattle.std.proofs.Common.{ℕ, ◌≡◌, ◌∙◌, ◌⊎◌, ◌<◌, ◌^◌, ◌&&◌, not, nat_lt, inl, inr, if◌then◌else◌, Bool, true, false, is_some, Option, Some, None, MatchOption, Result, Ok, Err, List, [], ◌∷◌, refl, ap, sym, subst, ◌+◌, ◌++◌, reverse, append_assoc, add-one, length, take, drop, take_at, zero, suc}
-use Rattle.std.specs.{List.AllByRecursion, Option.option_map_or, Result.result_map_both, Result.result_unwrap_or, Io.StartsWith, List.flat_map}
-use Rattle.tc_rules.specs.Prelude.{Run, Op, IsBehaviours, IsName, is_wake, overall, waiting, is_parked}
+use Rattle.std.{proofs.{Common.{ℕ, ◌≡◌, ◌∙◌, ◌⊎◌, ◌<◌, ◌^◌, ◌&&◌, not, nat_lt, inl, inr, if◌then◌else◌, Bool, true, false, is_some, Option, Some, None, MatchOption, Result, Ok, Err, List, [], ◌∷◌, refl, ap, sym, subst, ◌+◌, ◌++◌, reverse, append_assoc, add-one, length, take, drop, take_at, zero, suc}, lemmas.List.{Concat.flat_map-append, append-nil, reverse-append, take-append-drop}}, specs.{List.{AllByRecursion, flat_map}, Option.option_map_or, Result.{result_map_both, result_unwrap_or}, Io.StartsWith}}
+use Rattle.tc_rules.specs.{Prelude.{Run, Op, IsBehaviours, IsName, is_wake, overall, waiting, is_parked, wake_op}, declared.awaited.Awaited.Awaited}
 use Rattle.tc_text.specs.Prelude.{IsOp}
-use Rattle.tc_blocks.specs.declared.line.Line.{Line}
-use Rattle.tc_blocks.specs.Prelude.{is_met, IsSentence, end_text, with_lf, header_text, line_text, entries_of}
-use Rattle.tc_serve.specs.{Inside.with_line, Laws.AllServed, Laws.asked_by, Protocol.AreServed, Protocol.Came, Protocol.Comes, Protocol.IsOrder, Protocol.Played, Protocol.Sent, Protocol.ServiceState, Protocol.after_order, Protocol.made, Protocol.moved, Protocol.sleep_of, Protocol.was_done, Protocol.was_lost, Protocol.was_refused, Protocol.why_text, Protocol.with_added_line, Protocol.with_current, Protocol.with_name, Protocol.with_open, declared.order.Order.Order, declared.order.Refusal.Refusal, Inside.woken_once, Laws.TextGrows, Protocol.called, Protocol.played_past, Protocol.wake_op, Protocol.woken, Protocol.woken_from, Serve.block, Serve.case_header, Serve.opened_text, Serve.stand_text}
-use Rattle.std.proofs.lemmas.List.{Concat.flat_map-append, append-nil, reverse-append, take-append-drop}
-use Rattle.tc_rules.specs.declared.awaited.Awaited.{Awaited}
+use Rattle.tc_blocks.specs.{declared.line.Line.Line, Prelude.{is_met, IsSentence, end_text, with_lf, header_text, line_text, entries_of}}
+use Rattle.tc_serve.specs.{Inside.{with_line, woken_once, called}, Laws.{AllServed, asked_by}, Protocol.{AreServed, Came, Comes, IsOrder, Played, Sent, ServiceState, after_order, made, moved, sleep_of, was_done, was_lost, was_refused, why_text, with_added_line, with_current, with_name, with_open, played_past, woken, woken_from}, declared.order.{Order.Order, Refusal.Refusal}, Serve.{block, case_header, opened_text, stand_text}}
 
 abbrev pub new : List ℕ → ℕ → Played
 new name n = record { name = name; behaviours = n; lines = [] }
@@ -299,5 +295,5 @@ grown asks s t (inr (inr (inr (inl closes)))) =
     subst (λ (x : ServiceState). Grows (stand_text s) (stand_text x)) closes.is (text, ends s.closed p ∙ ap (λ (l : List ℕ). l ++ text) (open_is s (Some p) closes.some))
 grown asks s t (inr (inr (inr (inr same)))) = subst (λ (x : ServiceState). Grows (stand_text s) (stand_text x)) same.1 (grows_not (stand_text s))
 
-pub text_grows : TextGrows
+pub text_grows : (c : Came) (ended : Bool) (line : List ℕ) (s t : ServiceState) → Comes c ended line s t → (more : List ℕ) × (stand_text t ≡ stand_text s ++ more)
 text_grows c line_ended line s t came = grown _ s t (changes c line_ended line s t came)

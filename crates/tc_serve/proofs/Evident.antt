@@ -1,17 +1,9 @@
 -- What is written is evidence of what was asked for.
-use Rattle.std.proofs.Common.{ℕ, ◌≡◌, ◌≢◌, ◌∙◌, ◌==◌, ◌||◌, ◌&&◌, ◌+◌, ◌<◌, ◌≤◌, ◌^◌, inr, not, nat_lt, if◌then◌else◌, zero, suc, Bool, true, false, IsTrue, Option, Some, None, List, [], ◌∷◌, ◌++◌, length, reverse, refl, ap, sym, subst, append_assoc, arith, inl, is_some}
-use Rattle.std.specs.{List.All, List.AllByRecursion, List.flat_map, List.list_all, Result.result_unwrap_or, List.cons_option, List.filter_map, Option.option_map_or}
-use Rattle.std.proofs.lemmas.{Bool.Decides.nat_tests, List.append-nil, List.reverse-append, List.reverse-reverse}
-use Rattle.tc_rules.specs.Prelude.{Run, IsBehaviours, IsName, Comp, Entry, Op, Reply, answer, local_reply, plain_answer, comp_of, created, overall, awaited, holds, parks, waiting, is_parked, Fault, is_wake, IsLegal}
+use Rattle.std.{proofs.{Common.{ℕ, ◌≡◌, ◌≢◌, ◌∙◌, ◌==◌, ◌||◌, ◌&&◌, ◌+◌, ◌<◌, ◌≤◌, ◌^◌, inr, not, nat_lt, if◌then◌else◌, zero, suc, Bool, true, false, IsTrue, Option, Some, None, List, [], ◌∷◌, ◌++◌, length, reverse, refl, ap, sym, subst, append_assoc, arith, inl, is_some}, lemmas.{Bool.Decides.nat_tests, List.{append-nil, reverse-append, reverse-reverse}}}, specs.{List.{All, AllByRecursion, flat_map, list_all, cons_option, filter_map}, Result.result_unwrap_or, Option.option_map_or}}
+use Rattle.tc_rules.{specs.{Prelude.{Run, IsBehaviours, IsName, Comp, Entry, Op, Reply, answer, local_reply, plain_answer, comp_of, created, overall, awaited, holds, parks, waiting, is_parked, Fault, is_wake, IsLegal, wake_op}, declared.awaited.Awaited.Awaited}, proofs.Lemmas.Sound.{next, plain_if}}
 use Rattle.tc_text.specs.Prelude.{is_plain, IsOp, IsReply, IsTarget}
-use Rattle.tc_rules.specs.declared.awaited.Awaited.{Awaited}
-use Rattle.tc_rules.proofs.Lemmas.Sound.{next, plain_if}
-use Rattle.tc_blocks.specs.Prelude.{end_text, AreEntries, IsEntry, with_lf, header_text, entries_of, is_about, is_met, IsSentence, AreBlocks, AreLines, IsHeader, IsLine, block_lines, text_of_block, entry_in}
-use Rattle.tc_blocks.specs.declared.{header.Kind.Kind, line.Line.Line}
-use Rattle.tc_blocks.proofs.Lemmas.{Meeting.met_last, WrittenEvidence.written_evidence}
-use Rattle.tc_serve.specs.{Inside.after_call, Inside.with_line, Laws.ServedIsEvidence, Laws.block_of, Laws.blocks_of, Protocol.Played, Protocol.ServiceState, Protocol.called, Protocol.finished_state, Protocol.moved, Protocol.played_past, Protocol.wake_op, Protocol.why_text, Protocol.woken, Protocol.woken_from, Serve.block, Serve.case_header, Serve.stand_text, declared.order.Refusal.Refusal, Laws.AllServed, Laws.EvidenceIsAsked, Laws.IsSound, Laws.asked_by, Laws.asked_in, Laws.asked_of, Protocol.Came, Protocol.done_of, Protocol.sleep_of, Protocol.was_done, Protocol.was_lost, Protocol.was_refused, Protocol.with_current, declared.order.Order.Order}
-use Rattle.tc_serve.proofs.{Changes.IsNote, Changes.all_served, Changes.closing, Changes.may_add, Changes.lines_text}
-use Rattle.tc_serve.proofs.Changes.{Changed, changes, done_by, may_ask}
+use Rattle.tc_blocks.{specs.{Prelude.{end_text, AreEntries, IsEntry, with_lf, header_text, entries_of, is_about, is_met, IsSentence, AreBlocks, AreEvidence, AreLines, IsHeader, IsLine, block_lines, text_of_block, entry_in}, declared.{header.Kind.Kind, line.Line.Line}}, proofs.Lemmas.{Meeting.met_last, WrittenEvidence.written_evidence}}
+use Rattle.tc_serve.{specs.{Inside.{after_call, with_line, called}, Laws.{block_of, blocks_of, AllServed, IsSound, asked_by, asked_in, asked_of}, Protocol.{AreServed, Played, Sent, ServiceState, finished_state, moved, played_past, why_text, woken, woken_from, Came, done_of, sleep_of, was_done, was_lost, was_refused, with_current}, Serve.{block, case_header, stand_text}, declared.order.{Refusal.Refusal, Order.Order}}, proofs.Changes.{IsNote, all_served, closing, may_add, lines_text, Changed, changes, done_by, may_ask}}
 
 -- ---- the numbers of entries are those of their types
 
@@ -36,16 +28,7 @@ made_by_create past b Op.GetVerdict c e = by_comp (comp_of past b) e
     by_comp : (o : Option Comp) → Reply.Made c ≡ local_reply past o → created Op.GetVerdict (Reply.Made c) ≡ Some c
     by_comp None e = absurd cc
     by_comp (Some d) e = absurd cc
-made_by_create past b (Op.Start d run args) c e = absurd cc
-made_by_create past b (Op.Stop g) c e = absurd cc
-made_by_create past b (Op.Kill g) c e = absurd cc
-made_by_create past b Op.StopCase c e = absurd cc
-made_by_create past b (Op.Running t) c e = absurd cc
-made_by_create past b (Op.Alive t) c e = absurd cc
-made_by_create past b (Op.Done t) c e = absurd cc
-made_by_create past b (Op.Killed t) c e = absurd cc
-made_by_create past b (Op.SetVerdict v) c e = absurd cc
-made_by_create past b Op.Finish c e = absurd cc
+made_by_create past b _ c e = absurd cc
 
 reply_fits : (n : ℕ) (past : List Entry) (run : Run) (op : Op) (reply : Reply) → reply ≡ answer n past run.0 op → IsReply reply
 reply_fits n past run op (Reply.Made c) legal =
@@ -155,16 +138,7 @@ all_plain (b ∷ bs) all (suc k) d within = all_plain bs (second_of (is_plain b)
 
 refusal_plain : (why : Refusal) → IsSentence (why_text why)
 refusal_plain Refusal.Unended = record { some = omega arith; short = omega arith; plain = all_plain (why_text Refusal.Unended) refl }
-refusal_plain Refusal.TooLong = record { some = omega arith; short = omega arith; plain = all_plain (why_text Refusal.TooLong) refl }
-refusal_plain Refusal.BadRemark = record { some = omega arith; short = omega arith; plain = all_plain (why_text Refusal.BadRemark) refl }
-refusal_plain Refusal.Behaviours = record { some = omega arith; short = omega arith; plain = all_plain (why_text Refusal.Behaviours) refl }
-refusal_plain Refusal.BadLine = record { some = omega arith; short = omega arith; plain = all_plain (why_text Refusal.BadLine) refl }
-refusal_plain Refusal.CaseOpen = record { some = omega arith; short = omega arith; plain = all_plain (why_text Refusal.CaseOpen) refl }
-refusal_plain Refusal.NoCase = record { some = omega arith; short = omega arith; plain = all_plain (why_text Refusal.NoCase) refl }
-refusal_plain Refusal.NoRun = record { some = omega arith; short = omega arith; plain = all_plain (why_text Refusal.NoRun) refl }
-refusal_plain Refusal.LateName = record { some = omega arith; short = omega arith; plain = all_plain (why_text Refusal.LateName) refl }
-refusal_plain Refusal.Wake = record { some = omega arith; short = omega arith; plain = all_plain (why_text Refusal.Wake) refl }
-refusal_plain Refusal.Waiting = record { some = omega arith; short = omega arith; plain = all_plain (why_text Refusal.Waiting) refl }
+refusal_plain why = record { some = omega arith; short = omega arith; plain = all_plain (why_text why) refl }
 
 note_fits : (p : Played) (l : Line) → may_add p l ≡ true → IsNote l → IsEvident p → IsEvident (with_line p l)
 note_fits p (Line.Named run name) may fits is =
@@ -227,7 +201,8 @@ none_left s (Some p) is = refl
 closed_text : (s : ServiceState) → s.current ≡ None → stand_text s ≡ flat_map block (reverse s.closed)
 closed_text s none = ap (λ (c : Option Played). stand_text (record { closed = s.closed; current = c })) none ∙ append-nil (flat_map block (reverse s.closed))
 
-pub served_is_evidence : ServedIsEvidence
+pub served_is_evidence : (lines : List Sent) (s : ServiceState) → AreServed lines s → (finished_state s).closed ≢ [] →
+    AreEvidence (stand_text (finished_state s)) (blocks_of 1 (reverse (finished_state s).closed))
 served_is_evidence lines s served some =
     let ps = reverse (finished_state s).closed in
     let are = all_served IsEvident (λ name n name_is few. record { name = name_is; behaviours = few; entries = tt; lines = tt }) note_fits (λ p caller op may. move_fits p caller op) lines s served in
@@ -298,7 +273,7 @@ one_done (was_done o) orders = refl
 one_done (was_refused run why) orders = refl
 one_done (was_lost why) orders = refl
 
-pub evidence_is_asked : EvidenceIsAsked
+pub evidence_is_asked : (lines : List Sent) (s : ServiceState) → AreServed lines s → asked_of s ≡ filter_map (λ l. done_of l.came) lines
 evidence_is_asked [] s served = ap asked_of served
 evidence_is_asked (l ∷ before) t served =
     asked_next (done_by l.came) served.0 t (changes l.came l.ended _ served.0 t served.4)
@@ -356,10 +331,8 @@ sound : (p : Played) → IsSound p → Sound p.behaviours p.lines
 sound p so = record { legal = so.legal; wakes = so.wakes }
 
 pub no_entry : (p : Played) (l : Line) → may_add p l ≡ true → entry_in l ≡ []
-no_entry p (Line.Named run name) may = refl
 no_entry p (Line.Entry e) may = absurd cc
-no_entry p (Line.Remark run sentence) may = refl
-no_entry p (Line.Refused run sentence) may = refl
+no_entry p _ may = refl
 
 pub note_sound : (p : Played) (l : Line) → may_add p l ≡ true → IsSound p → IsSound (with_line p l)
 note_sound p l may so = let one = noted p.behaviours p.lines l (no_entry p l may) (sound p so) in record { legal = one.legal; wakes = one.wakes }

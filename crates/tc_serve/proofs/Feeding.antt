@@ -1,11 +1,6 @@
 -- Lines that come in pieces, and what is read and written of them, turn by turn.
-use Rattle.std.proofs.Common.{ℕ, ◌≡◌, ◌≢◌, ◌∙◌, ◌==◌, ◌&&◌, ◌||◌, ◌+◌, ◌-◌, ◌<◌, ◌≤◌, inl, inr, if◌then◌else◌, Bool, true, false, is_some, Option, Some, None, Result, Ok, Err, MatchResult, List, [], ◌∷◌, ◌++◌, codes, zero, suc, length, take, get_or, refl, ap, sym, subst, append_assoc, arith, ◌^◌, ◌↔◌, ◌⊎◌, IfErr, zero-add, suc-add}
-use Rattle.std.specs.{Fmt.decimal, Io.KnownBytes.IsAtEnd, List.list_all, Result.result_unwrap_or}
-use Rattle.std.proofs.lemmas.List.{append-nil, length-append, take_more}
-use Rattle.tc_serve.specs.{Inside.Closes, Inside.Counts, Inside.Fails, Inside.Feeds, Inside.IsAtLine, Inside.IsBadLine, Inside.IsEnd, Inside.IsFed, Inside.Serves, Inside.StandsAs, Inside.StopsIn, Inside.TakesPiece, Inside.TellsRun, Inside.Tries, Inside.TriesLine, Inside.is_refused, Protocol.AllEnded, Protocol.Came, Protocol.Comes, Protocol.IsNobodys, Protocol.IsOf, Protocol.IsOrderOf, Protocol.NoLf, Protocol.Refuses, Protocol.Sent, Protocol.ServiceState, Protocol.after_order, Protocol.finished_state, Protocol.seen, Protocol.was_done, Protocol.was_lost, Protocol.was_refused, Protocol.why_text, Serve.HasEnded, Serve.IsWhy, Serve.served, Serve.stopped, Serve.bytes_of, Serve.end_told, Serve.lines_messages, Serve.lost_text, Serve.refused_line_text, Serve.worst_case, declared.service.ServeFault.ServeFault, declared.order.Order.Order, declared.order.TheConstants.LINE_BYTES, declared.order.Refusal.Refusal, declared.server.Server.Server, declared.service.Served.Served, declared.serving.Serving.Serving, Inside.Hears, Inside.IsAt, Inside.IsOwn, Inside.IsTurn, Serve.Devices, Serve.IsServiceEnd, Inside.IsTaken, Serve.devices, declared.service.Ending.Ending}
-use Rattle.tc_serve.proofs.Changes.{appended}
-use Rattle.std.specs.Io.KnownBytes.{Appends, Consumes, Keeps}
-use Rattle.std.proofs.lemmas.{Grind.common_steps}
+use Rattle.std.{proofs.{Common.{ℕ, ◌≡◌, ◌≢◌, ◌∙◌, ◌==◌, ◌&&◌, ◌||◌, ◌+◌, ◌-◌, ◌<◌, ◌≤◌, inl, inr, if◌then◌else◌, Bool, true, false, is_some, Option, Some, None, Result, Ok, Err, MatchResult, List, [], ◌∷◌, ◌++◌, codes, zero, suc, length, take, get_or, refl, ap, sym, subst, append_assoc, arith, ◌^◌, ◌↔◌, ◌⊎◌, IfErr, zero-add, suc-add}, lemmas.{List.{append-nil, length-append, take_more}, Grind.common_steps}}, specs.{Fmt.decimal, Io.KnownBytes.{IsAtEnd, Appends, Consumes, Keeps}, List.list_all, Result.result_unwrap_or}}
+use Rattle.tc_serve.{specs.{Inside.{Closes, Counts, Fails, Feeds, IsAtLine, IsBadLine, IsEnd, IsFed, Serves, StandsAs, StopsIn, TakesPiece, TellsRun, Tries, TriesLine, is_refused, Hears, IsAt, IsOwn, IsTurn, IsTaken, end_told, IsNobodys}, Protocol.{AllEnded, Came, Comes, IsOf, IsOrderOf, NoLf, Refuses, Sent, ServiceState, after_order, finished_state, seen, was_done, was_lost, was_refused, why_text}, Serve.{HasEnded, IsWhy, served, stopped, bytes_of, lines_messages, lost_text, refused_line_text, worst_case, Devices, IsServiceEnd, devices}, declared.{service.{ServeFault.ServeFault, Served.Served, Ending.Ending}, order.{Order.Order, TheConstants.LINE_BYTES, Refusal.Refusal}, server.Server.Server, serving.Serving.Serving}}, proofs.Changes.appended}
 use Rattle.tc_stream.specs.Prelude.{AppendsPrefix}
 
 -- ---- lines
@@ -192,9 +187,8 @@ long_lines (l ∷ before) all = by_end l.ended refl (long_lines before (second l
 pub why_line : (f : ServeFault) (line behind : List ℕ) (lines : List Sent) (s : ServiceState) (input : Option (List ℕ)) → AllEnded lines → NoLf line → IsBadLine f true line lines s → IsWhy f lines s (line ++ 10 ∷ behind) input
 why_line (ServeFault.Line n why) line behind lines s input all plain bad = (bad.0, bad.1, (line, behind, plain, inl (refl, bad.2)))
 why_line ServeFault.TooLong line behind lines s input all plain bad = omega (arith, bad, long_lines lines all, length-append (bytes_of lines) (line ++ 10 ∷ behind))
-why_line ServeFault.Read line behind lines s input all plain bad = absurd bad
-why_line ServeFault.Write line behind lines s input all plain bad = absurd bad
 why_line ServeFault.NoMemory line behind lines s input all plain bad = tt
+why_line _ line behind lines s input all plain bad = absurd bad
 
 -- nothing more was appended, and the rest was not served
 pub stops_here : (read rest bytes : List ℕ) (v : Serving) (before out written before' told told' : List ℕ) (input : Option (List ℕ)) (f : ServeFault) → (fed : IsFed bytes v before out before' told) → read ≡ bytes_of fed.lines ++ rest →
@@ -304,9 +298,8 @@ some_seen line looked same some = λ none. some (same ∙ (ap seen none ∙ take
 why_last : (f : ServeFault) (line : List ℕ) (lines : List Sent) (s : ServiceState) (input : Option (List ℕ)) → IsAtEnd input → AllEnded lines → NoLf line → line ≢ [] → IsBadLine f false line lines s → IsWhy f lines s line input
 why_last (ServeFault.Line n why) line lines s input end all plain some bad = (bad.0, bad.1, (line, [], plain, inr (refl, some, end, bad.2)))
 why_last ServeFault.TooLong line lines s input end all plain some bad = omega (arith, bad, long_lines lines all, length-append (bytes_of lines) line)
-why_last ServeFault.Read line lines s input end all plain some bad = absurd bad
-why_last ServeFault.Write line lines s input end all plain some bad = absurd bad
 why_last ServeFault.NoMemory line lines s input end all plain some bad = tt
+why_last _ line lines s input end all plain some bad = absurd bad
 
 pub stops_last : (bytes before before' : List ℕ) (v : Serving) (out written told told' : List ℕ) (input : Option (List ℕ)) (f : ServeFault) → IsAtEnd input → IsFed bytes v before out before' told → v.line.items ≢ [] → Fails false v out told f → written ≡ out → told' ≡ told →
     HasEnded bytes input (before ++ written) (before' ++ told') (Err f)

@@ -1,13 +1,10 @@
 -- A line spells one order at most, and none is as long as what is looked at of one.
 use Rattle.std.proofs.Common.{◌≡◌, ◌∙◌, ◌<◌, ◌^◌, ◌∷◌, ◌++◌, ℕ, false, List, codes, Option, Some, None, Result, Ok, Err, ap, sym, append_assoc, subst, arith, ◌*◌, ◌≤◌, inr, true, [], length, refl}
-use Rattle.std.specs.Fmt.{decimal}
-use Rattle.std.proofs.lemmas.{Fmt.length-decimal-le, List.length-append, List.length-take-le}
+use Rattle.std.{specs.Fmt.decimal, proofs.lemmas.{Fmt.length-decimal-le, List.{length-append, length-take-le}}}
 use Rattle.tc_rules.specs.Prelude.{Run, Entry, Op, UserVerdict, given, name_of, Comp, Group, Target, Reply}
-use Rattle.tc_text.proofs.Lemmas.Digits.{no_letter}
-use Rattle.tc_text.specs.Prelude.{move_text, op_text, IsOp, AreComps, IsGroup, IsTarget, args_text, group_text, target_text}
-use Rattle.tc_blocks.specs.Prelude.{said_text, IsSentence}
-use Rattle.tc_blocks.proofs.Lemmas.Notes.{entry_not_said, said_not_naming}
-use Rattle.tc_serve.specs.{Laws.LongLinesAreRefused, Protocol.IsOrder, Protocol.order_text, declared.order.Order.Order, declared.order.TheConstants.LINE_BYTES, declared.order.Refusal.Refusal}
+use Rattle.tc_text.{proofs.Lemmas.Digits.no_letter, specs.Prelude.{move_text, op_text, IsOp, AreComps, IsGroup, IsTarget, args_text, group_text, target_text}}
+use Rattle.tc_blocks.{specs.Prelude.{said_text, IsSentence}, proofs.Lemmas.Notes.{entry_not_said, said_not_naming}}
+use Rattle.tc_serve.specs.{Protocol.{IsOrder, Refuses, ServiceState, order_text, seen}, declared.order.{Order.Order, TheConstants.LINE_BYTES, Refusal.Refusal}}
 
 -- no move begins with a letter
 move_no_letter : (run b : ℕ) (op : Op) (after : List ℕ) → run < 2 ^ 16 → 57 < b → move_text run op ≡ b ∷ after → ⊥
@@ -51,17 +48,11 @@ pub remark_only : (text : List ℕ) (run : Run) (bytes sentence : List ℕ) → 
     (o : Order) → IsOrder o → text ≡ order_text o → ◌≡◌ {A = Result Order Refusal} (Ok (Order.Remark run sentence)) (Ok o)
 remark_only text run bytes sentence low spelled only same (Order.Remark r that) fits e =
     let two = only r.0 that fits.0 e in ap (λ k. Ok (make k sentence)) two.0 ∙ ap (λ s. Ok (make r.0 s)) (same ∙ two.1)
-remark_only text run bytes sentence low spelled only same (Order.Case name n) fits e = absurd (not_remark text run.0 bytes low spelled (Order.Case name n) fits tt e)
-remark_only text run bytes sentence low spelled only same (Order.Named r name) fits e = absurd (not_remark text run.0 bytes low spelled (Order.Named r name) fits tt e)
-remark_only text run bytes sentence low spelled only same (Order.Move r p) fits e = absurd (not_remark text run.0 bytes low spelled (Order.Move r p) fits tt e)
-remark_only text run bytes sentence low spelled only same Order.End fits e = absurd (not_remark text run.0 bytes low spelled Order.End fits tt e)
+remark_only text run bytes sentence low spelled only same order fits e = absurd (not_remark text run.0 bytes low spelled order fits tt e)
 
 pub remark_none : (text : List ℕ) (run : Run) (bytes : List ℕ) → run.0 < 2 ^ 16 → text ≡ said_text false run.0 bytes → IsThatRemark text run bytes → (IsSentence bytes → ⊥) → (o : Order) → IsOrder o → text ≡ order_text o → ⊥
 remark_none text run bytes low spelled only none (Order.Remark r that) fits e = let two = only r.0 that fits.0 e in none (subst IsSentence (sym two.1) fits.1)
-remark_none text run bytes low spelled only none (Order.Case name n) fits e = not_remark text run.0 bytes low spelled (Order.Case name n) fits tt e
-remark_none text run bytes low spelled only none (Order.Named r name) fits e = not_remark text run.0 bytes low spelled (Order.Named r name) fits tt e
-remark_none text run bytes low spelled only none (Order.Move r p) fits e = not_remark text run.0 bytes low spelled (Order.Move r p) fits tt e
-remark_none text run bytes low spelled only none Order.End fits e = not_remark text run.0 bytes low spelled Order.End fits tt e
+remark_none text run bytes low spelled only none order fits e = not_remark text run.0 bytes low spelled order fits tt e
 
 -- ---- moves
 
@@ -97,18 +88,13 @@ group_short Group.All fits = omega arith
 
 target_short : (t : Target) → IsTarget t → length (target_text t) ≤ 10
 target_short (Target.One c) fits = comp_short c.0 fits
-target_short Target.Any fits = omega arith
-target_short Target.All fits = omega arith
+target_short _ fits = omega arith
 
 given_short : (v : UserVerdict) → length (name_of (given v)) ≤ 10
 given_short UserVerdict.None = omega arith
-given_short UserVerdict.Pass = omega arith
-given_short UserVerdict.Inconc = omega arith
-given_short UserVerdict.Fail = omega arith
+given_short _ = omega arith
 
 op_short : (op : Op) → IsOp op → length (op_text op) ≤ 100
-op_short (Op.Create false None) fits = omega arith
-op_short (Op.Create true None) fits = omega arith
 op_short (Op.Create false (Some name)) fits = let short = fits.is_short in omega (arith, short)
 op_short (Op.Create true (Some name)) fits = let short = fits.is_short in omega (arith, short)
 op_short (Op.Start c run args) fits =
@@ -116,7 +102,6 @@ op_short (Op.Start c run args) fits =
     omega (arith, comp_short c.0 fits.0, number_short run.0 fits.1, few, args_short args fits.3, length-append (decimal c.0) (codes " " ++ (decimal run.0 ++ args_text args)), length-append (decimal run.0) (args_text args))
 op_short (Op.Stop g) fits = omega (arith, group_short g fits)
 op_short (Op.Kill g) fits = omega (arith, group_short g fits)
-op_short Op.StopCase fits = omega arith
 op_short (Op.Running t) fits = omega (arith, target_short t fits)
 op_short (Op.Alive t) fits = omega (arith, target_short t fits)
 op_short (Op.Done t) fits = omega (arith, target_short t fits)
@@ -126,8 +111,7 @@ op_short (Op.Wait true t) fits = omega (arith, target_short t fits)
 op_short (Op.Wake false t) fits = omega (arith, target_short t fits)
 op_short (Op.Wake true t) fits = omega (arith, target_short t fits)
 op_short (Op.SetVerdict v) fits = omega (arith, given_short v)
-op_short Op.GetVerdict fits = omega arith
-op_short Op.Finish fits = omega arith
+op_short _ fits = omega arith
 
 pub order_short : (o : Order) → IsOrder o → length (order_text o) < LINE_BYTES
 order_short (Order.Case name n) fits =
@@ -143,7 +127,7 @@ order_short (Order.Remark run sentence) fits =
     omega (arith, short, number_short run.0 fits.0, length-append (decimal run.0) (codes " # " ++ sentence))
 order_short Order.End fits = omega arith
 
-pub long_lines_are_refused : LongLinesAreRefused
+pub long_lines_are_refused : (line : List ℕ) (s : ServiceState) → LINE_BYTES ≤ length line → Refuses Refusal.TooLong true (seen line) s
 long_lines_are_refused line s long = inr (
   λ o asks. absurd (omega (arith, order_short o asks.1, ap length asks.2, length-take-le LINE_BYTES line long)),
   (refl, omega (arith, length-take-le LINE_BYTES line long)),

@@ -1,14 +1,8 @@
 -- No run that can continue is left asleep: one pass over the runs, in the order of their numbers, wakes all that can.
-use Rattle.std.proofs.Common.{ℕ, ◌≡◌, ◌≢◌, ◌<◌, ◌≤◌, ◌==◌, ◌&&◌, ◌||◌, ◌⊎◌, inl, inr, not, if◌then◌else◌, zero, suc, Bool, true, false, Option, Some, None, List, [], ◌∷◌, ◌++◌, drop, refl, ap, sym, subst, ◌∙◌, arith}
-use Rattle.std.specs.List.{AllByRecursion, list_any, list_all}
-use Rattle.std.proofs.lemmas.Bool.Decides.{nat_tests}
-use Rattle.tc_rules.specs.Prelude.{Run, Comp, Entry, Op, Target, Phase, Fault, Reply, add_new, comp_of, comps, created, exists, is_alive_type, phase, phase_if_not_killed, last_run, was_halted, was_killed, done, is_done, is_killed, is_running, killed, holds, is_still, is_stuck, parks, waiting, waits_in_vain, all_exist, asks_many, fault, target_names, answer, answer_unless, is_active, is_active_on, is_run_of, local_reply, plain_answer, is_quiet, keeps_phases, IsLegal}
-use Rattle.tc_rules.specs.declared.awaited.Awaited.{Awaited}
-use Rattle.tc_rules.proofs.Lemmas.{Deciding.and_left, Deciding.and_no, Deciding.and_right, Deciding.equal_if, Deciding.first_alone, Deciding.self_equal, Going.last_on_it, Over.on_existing, Over.stays, Quiet.quiet_wakes_nobody, Sound.plain_if}
-use Rattle.tc_blocks.specs.declared.line.Line.{Line}
-use Rattle.tc_blocks.specs.Prelude.{entries_of, entry_in}
-use Rattle.tc_serve.specs.{Inside.after_call, Inside.wakes_nobody, Inside.with_line, Laws.AllServed, Laws.IsSettled, Laws.IsSound, Protocol.Played, Protocol.called, Protocol.moved, Protocol.played_past, Protocol.wake_op, Protocol.woken, Protocol.woken_from}
-use Rattle.tc_serve.proofs.{Evident.all_legal, Evident.move_sound, Evident.no_entry, Evident.note_sound, Changes.all_served}
+use Rattle.std.{proofs.{Common.{ℕ, ◌≡◌, ◌≢◌, ◌<◌, ◌≤◌, ◌==◌, ◌&&◌, ◌||◌, ◌⊎◌, inl, inr, not, if◌then◌else◌, zero, suc, Bool, true, false, Option, Some, None, List, [], ◌∷◌, ◌++◌, drop, refl, ap, sym, subst, ◌∙◌, arith}, lemmas.Bool.Decides.nat_tests}, specs.List.{AllByRecursion, list_any, list_all}}
+use Rattle.tc_rules.{specs.{Prelude.{Run, Comp, Entry, Op, Target, Phase, Fault, Reply, add_new, comp_of, comps, created, exists, is_alive_type, phase, phase_if_not_killed, last_run, was_halted, was_killed, done, is_done, is_killed, is_running, killed, holds, is_still, is_stuck, parks, waiting, waits_in_vain, all_exist, asks_many, fault, target_names, answer, answer_unless, is_active, is_active_on, is_run_of, local_reply, plain_answer, is_quiet, keeps_phases, IsLegal, wake_op}, declared.awaited.Awaited.Awaited}, proofs.Lemmas.{Deciding.{and_left, and_no, and_right, equal_if, first_alone, self_equal}, Going.last_on_it, Over.{on_existing, stays}, Quiet.quiet_wakes_nobody, Sound.plain_if}}
+use Rattle.tc_blocks.specs.{declared.line.Line.Line, Prelude.{entries_of, entry_in}}
+use Rattle.tc_serve.{specs.{Inside.{after_call, wakes_nobody, with_line, called, IsSettled}, Laws.{AllServed, IsSound}, Protocol.{Played, moved, played_past, woken, woken_from}}, proofs.{Evident.{all_legal, move_sound, no_entry, note_sound}, Changes.all_served}}
 
 -- ---- a call that is replied Ended changes nothing for the others
 
@@ -337,11 +331,7 @@ module _ (n : ℕ) (past : List Entry) (caller : Run) (op : Op) (some : 0 < n) (
   by_reply Reply.Ended is nobody = by_ended (sym is)
   by_reply Reply.Parked is nobody = absurd cc
   by_reply (Reply.Fault f) is nobody = absurd cc
-  by_reply (Reply.Made c) is nobody = by_quiet (Reply.Made c) is refl (keeps_on _ nobody)
-  by_reply Reply.Ok is nobody = by_quiet Reply.Ok is refl (keeps_on _ nobody)
-  by_reply (Reply.Answer t) is nobody = by_quiet (Reply.Answer t) is refl (keeps_on _ nobody)
-  by_reply (Reply.Local v) is nobody = by_quiet (Reply.Local v) is refl (keeps_on _ nobody)
-  by_reply Reply.Matched is nobody = by_quiet Reply.Matched is refl (keeps_on _ nobody)
+  by_reply reply is nobody = by_quiet reply is refl (keeps_on _ nobody)
 
   -- nobody sleeps who can continue after a call that wakes nobody, if nobody did before it
   still_settled : wakes_nobody (keeps_phases op) (answer n past caller.0 op) ≡ true → AreSettled n (record { caller = caller; op = op; reply = answer n past caller.0 op } ∷ past) n

@@ -1,14 +1,8 @@
 -- Runs that sleep, and how they are woken.
-use Rattle.std.proofs.Common.{ℕ, ◌≡◌, ◌≢◌, ◌∙◌, ◌+◌, ◌==◌, ◌<◌, ◌≤◌, zero, suc, nat_lt, if◌then◌else◌, Bool, true, false, Some, None, List, [], ◌∷◌, ◌++◌, length, get_or, take, drop, drop-cons, drop_at, take_all, take_at, take-take, length-take-le, refl, ap, sym, subst, arith, ◌-◌}
-use Rattle.std.specs.Prelude.{remove}
-use Rattle.std.proofs.lemmas.{Bool.Decides.nat_tests, List.append-nil, List.take-append-drop, List.take_more}
-use Rattle.tc_rules.specs.Prelude.{Entry, Op, Reply, parks, waiting, is_parked, answer, IsReplyOf, Kept}
-use Rattle.tc_serve.specs.{Inside.AllBelow, Inside.AreAsleep, Inside.AreInOrder, Inside.IsAdded, Inside.IsPassed, Inside.sleep_in, Protocol.Played, Protocol.played_past, Protocol.sleep_of, declared.sleepers.Sleeper.Sleeper, Inside.Becomes, Inside.Holds, Inside.IsCalled, Inside.IsKept, Inside.IsOpen, Inside.after_call, Inside.woken_once, Protocol.called, Protocol.wake_op, Protocol.woken, Protocol.woken_from, declared.open_case.OpenCase.OpenCase}
-use Rattle.std.proofs.lemmas.List.{length-drop}
-use Rattle.tc_rules.specs.declared.awaited.Awaited.{Awaited}
-use Rattle.tc_blocks.specs.declared.{line.Line.Line, met.MetRuns.MetRuns}
-use Rattle.tc_blocks.specs.Prelude.{entries_of}
-use Rattle.tc_serve.proofs.{Changes.woken_next}
+use Rattle.std.{proofs.{Common.{ℕ, ◌≡◌, ◌≢◌, ◌∙◌, ◌+◌, ◌==◌, ◌<◌, ◌≤◌, zero, suc, nat_lt, if◌then◌else◌, Bool, true, false, Some, None, List, [], ◌∷◌, ◌++◌, length, get_or, take, drop, drop-cons, drop_at, take_all, take_at, take-take, length-take-le, refl, ap, sym, subst, arith, ◌-◌}, lemmas.{Bool.Decides.nat_tests, List.{append-nil, take-append-drop, take_more, length-drop}}}, specs.Prelude.remove}
+use Rattle.tc_rules.specs.{Prelude.{Entry, Op, Reply, parks, waiting, is_parked, answer, IsReplyOf, Kept, wake_op}, declared.awaited.Awaited.Awaited}
+use Rattle.tc_serve.{specs.{Inside.{AllBelow, AreAsleep, AreInOrder, IsAdded, IsPassed, sleep_in, Becomes, Holds, IsCalled, IsKept, IsOpen, after_call, woken_once, called}, Protocol.{Played, played_past, sleep_of, woken, woken_from}, declared.{sleepers.Sleeper.Sleeper, open_case.OpenCase.OpenCase}}, proofs.Changes.woken_next}
+use Rattle.tc_blocks.specs.{declared.{line.Line.Line, met.MetRuns.MetRuns}, Prelude.entries_of}
 
 -- ---- lists in order
 

@@ -1,16 +1,8 @@
 -- What a line tries, and the calls that it makes.
-use Rattle.std.proofs.Common.{ℕ, ◌≡◌, ◌∙◌, ◌<◌, ◌^◌, nat_lt, if◌then◌else◌, Bool, true, false, is_some, not, inl, inr, Option, Some, None, Result, Ok, Err, is_err, MatchResult, List, [], ◌∷◌, ◌++◌, refl, ap, sym, subst, ◌==◌, ◌||◌, append_assoc, arith}
-use Rattle.std.specs.{Option.option_map_or, Result.result_map_both}
-use Rattle.tc_rules.specs.Prelude.{Run, Verdict, worse, overall, Entry, Op, Reply, answer, IsReplyOf, Kept, StandsFor, TakesIn, keeps_phases, IsLegal, awaited, parks, waiting, is_parked, is_wake}
-use Rattle.tc_blocks.specs.Prelude.{end_text, with_lf, header_text, entry_in, is_met, line_text, starts, AreMet}
-use Rattle.tc_blocks.specs.declared.line.Line.{Line}
-use Rattle.tc_serve.specs.{Inside.Changes, Inside.IsCurrent, Inside.IsOpen, Inside.Rests, Inside.StandsAs, Inside.TellsRun, Inside.Tries, Inside.TriesLine, Inside.with_line, Protocol.IsNobodys, Protocol.IsOf, Protocol.IsOrder, Protocol.IsOrderOf, Protocol.IsWhyNothing, Protocol.Played, Protocol.Refuses, Protocol.ServiceState, Protocol.after_order, Protocol.order_text, Protocol.played_past, Protocol.refused, Protocol.why_text, Protocol.with_added_line, Protocol.with_current, Protocol.with_open, Serve.case_header, Serve.counted, Serve.stand_text, declared.open_case.OpenCase.OpenCase, declared.order.Order.Order, declared.order.Refusal.Refusal, declared.server.Server.Server, Inside.AreAsleep, Inside.Becomes, Inside.BecomesAwake, Inside.Holds, Inside.IsAdded, Inside.IsCalled, Inside.IsKept, Inside.IsText, Inside.Moves, Inside.after_call, Inside.entry, Inside.started, Inside.wakes_nobody, Protocol.called, Protocol.made, Protocol.moved, Protocol.sleep_of, Protocol.woken}
-use Rattle.tc_serve.proofs.{Changes.appended, Changes.begins, Changes.ends, Settled.new_settled, Changes.grows, Changes.line_more, Settled.moved_settled, Settled.nobody_woken, Settled.noted_settled, Sleeping.asleep_more, Sleeping.asleep_on}
-use Rattle.std.specs.Result.{result_err}
-use Rattle.std.proofs.lemmas.Bool.Decides.{nat_tests}
-use Rattle.tc_rules.specs.declared.awaited.Awaited.{Awaited}
-use Rattle.tc_rules.proofs.Lemmas.Standing.{legal_for}
-use Rattle.tc_blocks.specs.declared.{met.MetRuns.MetRuns}
+use Rattle.std.{proofs.{Common.{ℕ, ◌≡◌, ◌∙◌, ◌<◌, ◌^◌, nat_lt, if◌then◌else◌, Bool, true, false, is_some, not, inl, inr, Option, Some, None, Result, Ok, Err, is_err, MatchResult, List, [], ◌∷◌, ◌++◌, refl, ap, sym, subst, ◌==◌, ◌||◌, append_assoc, arith}, lemmas.Bool.Decides.nat_tests}, specs.{Option.option_map_or, Result.{result_map_both, result_err}}}
+use Rattle.tc_rules.{specs.{Prelude.{Run, Verdict, worse, overall, Entry, Op, Reply, answer, IsReplyOf, Kept, StandsFor, TakesIn, keeps_phases, IsLegal, awaited, parks, waiting, is_parked, is_wake, started_run}, declared.awaited.Awaited.Awaited}, proofs.Lemmas.Standing.legal_for}
+use Rattle.tc_blocks.specs.{Prelude.{end_text, with_lf, header_text, entry_in, is_met, line_text, starts, AreMet}, declared.{line.Line.Line, met.MetRuns.MetRuns}}
+use Rattle.tc_serve.{specs.{Inside.{Changes, IsCurrent, IsOpen, Rests, StandsAs, TellsRun, Tries, TriesLine, with_line, AreAsleep, Becomes, BecomesAwake, Holds, IsAdded, IsCalled, IsKept, IsText, Moves, after_call, entry, wakes_nobody, called, counted, IsNobodys}, Protocol.{IsOf, IsOrder, IsOrderOf, IsWhyNothing, Played, Refuses, ServiceState, after_order, order_text, played_past, refused, why_text, with_added_line, with_current, with_open, made, moved, sleep_of, woken}, Serve.{case_header, stand_text}, declared.{open_case.OpenCase.OpenCase, order.{Order.Order, Refusal.Refusal}, server.Server.Server}}, proofs.{Changes.{appended, begins, ends, grows, line_more}, Settled.{new_settled, moved_settled, nobody_woken, noted_settled}, Sleeping.{asleep_more, asleep_on}}}
 
 abbrev pub server : Option OpenCase → Verdict → Server
 server c w = record { current = c; worst = w }
@@ -248,14 +240,14 @@ line_whole text move outcome out written begun is =
     is ∙ (ap (λ (l : List ℕ). l ++ (outcome ++ 10 ∷ [])) begun ∙ (append_assoc text move (outcome ++ 10 ∷ []) ∙ ap (λ (l : List ℕ). text ++ l) (sym (append_assoc move outcome (10 ∷ [])))))
 
 -- the line of a call is about the runs of two refused lines
-pub met_none : (met : MetRuns) (caller : Run) (op : Op) (reply : Reply) (ls : List Line) → None ≡ started op → AreMet met (Line.Refused caller [] ∷ ls) → AreMet met (Line.Entry (entry caller op reply) ∷ ls)
+pub met_none : (met : MetRuns) (caller : Run) (op : Op) (reply : Reply) (ls : List Line) → None ≡ started_run op → AreMet met (Line.Refused caller [] ∷ ls) → AreMet met (Line.Entry (entry caller op reply) ∷ ls)
 met_none met caller op reply ls none are b d less = are b d less ∙ by_op op none
   where
-    by_op : (o : Op) → None ≡ started o → ((caller.0 == b) || is_met b ls) ≡ (((caller.0 == b) || starts b o) || is_met b ls)
+    by_op : (o : Op) → None ≡ started_run o → ((caller.0 == b) || is_met b ls) ≡ (((caller.0 == b) || starts b o) || is_met b ls)
     by_op (Op.Start c run args) e = absurd cc
     by_op _ e = ap (λ (t : Bool). t || is_met b ls) (sym (or_no (caller.0 == b)))
 
-pub met_some : (met : MetRuns) (caller run : Run) (op : Op) (reply : Reply) (ls : List Line) → Some run ≡ started op → AreMet met (Line.Refused run [] ∷ Line.Refused caller [] ∷ ls) → AreMet met (Line.Entry (entry caller op reply) ∷ ls)
+pub met_some : (met : MetRuns) (caller run : Run) (op : Op) (reply : Reply) (ls : List Line) → Some run ≡ started_run op → AreMet met (Line.Refused run [] ∷ Line.Refused caller [] ∷ ls) → AreMet met (Line.Entry (entry caller op reply) ∷ ls)
 met_some met caller run op reply ls some are b d less = are b d less ∙ by_op op some
   where
     turned : (x y z : Bool) → (x || (y || z)) ≡ ((y || x) || z)
@@ -264,7 +256,7 @@ met_some met caller run op reply ls some are b d less = are b d less ∙ by_op o
     turned false true z = refl
     turned false false z = refl
 
-    by_op : (o : Op) → Some run ≡ started o → ((run.0 == b) || ((caller.0 == b) || is_met b ls)) ≡ (((caller.0 == b) || starts b o) || is_met b ls)
+    by_op : (o : Op) → Some run ≡ started_run o → ((run.0 == b) || ((caller.0 == b) || is_met b ls)) ≡ (((caller.0 == b) || starts b o) || is_met b ls)
     by_op (Op.Start c r args) e = let same : run ≡ r = cc in ap (λ (k : Run). (k.0 == b) || ((caller.0 == b) || is_met b ls)) same ∙ turned (r.0 == b) (caller.0 == b) (is_met b ls)
     by_op _ e = absurd cc
 

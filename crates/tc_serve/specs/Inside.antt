@@ -1,12 +1,29 @@
 -- What the functions inside say.
-use Rattle.std.specs.Prelude.{ℕ, ◌≡◌, ◌+◌, ◌-◌, ◌<◌, ◌≤◌, ◌^◌, ◌==◌, suc, if◌then◌else◌, Bool, true, false, is_some, is_none, Option, Some, None, Result, Ok, Err, List, [], ◌∷◌, ◌++◌, length, take, drop, insert, MatchBool, MatchResult}
+use Rattle.std.specs.{Prelude.{ℕ, ◌≡◌, ◌+◌, ◌-◌, ◌<◌, ◌≤◌, ◌^◌, ◌==◌, suc, if◌then◌else◌, Bool, true, false, is_some, is_none, Option, Some, None, Result, Ok, Err, List, [], ◌∷◌, ◌++◌, length, take, drop, insert, MatchBool, MatchResult, codes, is_err}, Io.KnownBytes.{Appends, Consumes}, List.list_any}
 use Rattle.tc_stream.specs.Prelude.{AppendsPrefix}
-use Rattle.std.specs.{Io.KnownBytes.Appends, Io.KnownBytes.Consumes, List.list_any}
-use Rattle.tc_rules.specs.Prelude.{Run, IsBehaviours, Kept, StandsFor, waiting, Entry, Op, Reply}
-use Rattle.tc_rules.specs.declared.awaited.Awaited.{Awaited}
-use Rattle.tc_blocks.specs.declared.{line.Line.Line, met.MetRuns.MetRuns}
-use Rattle.tc_blocks.specs.Prelude.{entries_of, AreMet}
-use Rattle.tc_serve.specs.{Laws.IsSettled, Protocol.AllEnded, Protocol.AreServed, Protocol.Came, Protocol.IsNobodys, Protocol.IsOf, Protocol.IsOrderOf, Protocol.NoLf, Protocol.OpensNone, Protocol.Played, Protocol.Refuses, Protocol.Sent, Protocol.ServiceState, Protocol.after_order, Protocol.called, Protocol.done_of, Protocol.finished_state, Protocol.moved, Protocol.order_text, Protocol.played_past, Protocol.refused, Protocol.seen, Protocol.sleep_of, Protocol.woken_from, Serve.Devices, Serve.HasEnded, Serve.bytes_of, Serve.end_told, Serve.lines_messages, Serve.stand_text, Serve.worst_case, declared.service.ServeFault.ServeFault, declared.open_case.OpenCase.OpenCase, declared.order.Order.Order, declared.order.Refusal.Refusal, declared.server.Server.Server, declared.service.Served.Served, declared.serving.Serving.Serving, declared.sleepers.Sleeper.Sleeper}
+use Rattle.tc_rules.specs.{Prelude.{Run, IsBehaviours, Kept, StandsFor, waiting, Entry, Op, Reply, entry_made, Verdict, is_over, overall, answer, wake_op}, declared.awaited.Awaited.Awaited}
+use Rattle.tc_blocks.specs.{declared.{line.Line.Line, met.MetRuns.MetRuns}, Prelude.{entries_of, AreMet}}
+use Rattle.tc_serve.specs.{Protocol.{AllEnded, AreServed, Came, IsOf, IsOrderOf, NoLf, OpensNone, Played, Refuses, Sent, ServiceState, after_order, done_of, finished_state, moved, order_text, played_past, refused, seen, sleep_of, woken_from}, Serve.{Devices, HasEnded, bytes_of, lines_messages, stand_text, worst_case}, declared.{service.{ServeFault.ServeFault, Served.Served}, open_case.OpenCase.OpenCase, order.{Order.Order, Refusal.Refusal}, server.Server.Server, serving.Serving.Serving, sleepers.Sleeper.Sleeper}}
+
+-- the verdict that a test case counts as: error if it is not over
+abbrev pub counted : Played → Verdict
+counted p = if is_over (played_past p) then overall (played_past p) else Verdict.Error
+
+-- and about the end of the input, by whether a test case is open
+abbrev pub end_told : Bool → List ℕ
+end_told inside = if inside then codes "ttrun: the input ended inside a test case" ++ (10 ∷ []) else []
+
+-- no run gets the refusal of the line
+abbrev pub IsNobodys : List ℕ → ServiceState → Type 0
+IsNobodys line s = (run : Run) (why : Refusal) → run.0 < 2 ^ 16 → IsOf line run.0 → is_err (refused s run why) ≡ true
+
+-- no run that can continue sleeps: the wake of each run that sleeps would be parked
+abbrev pub IsSettled : Played → Type 0
+IsSettled p = (b : ℕ) (a : Awaited) → b < p.behaviours → waiting (played_past p) b ≡ Some a → answer p.behaviours (played_past p) b (wake_op a) ≡ Reply.Parked
+
+-- the entry of a call, with the component table's reply
+abbrev pub called : ℕ → List Line → Run → Op → Entry
+called n lines caller op = entry_made n (entries_of lines) caller op
 
 -- the line is neither a move nor a remark
 abbrev pub IsOther : Order → Type 0
@@ -89,11 +106,6 @@ pub record Holds (o : OpenCase) (p : Played) (closed : List Played) (before out 
 -- an entry
 abbrev pub entry : Run → Op → Reply → Entry
 entry caller op reply = record { caller = caller; op = op; reply = reply }
-
--- the run that the operation starts
-abbrev pub started : Op → Option Run
-started (Op.Start c run args) = Some run
-started _ = None
 
 -- the lines after a call, before any run is woken
 abbrev pub after_call : Played → Run → Op → List Line

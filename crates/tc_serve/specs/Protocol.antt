@@ -1,14 +1,11 @@
 -- The protocol: what a line asks for, when it may, what it adds to the evidence, who is woken by it, what a refused line
 -- does, and how the service ends. An order has one spelling, and a refusal its words, which are this project's own. What
 -- is written is in Serve.
-use Rattle.std.specs.Prelude.{ℕ, List, codes, ◌<◌, ◌^◌, false, ◌++◌, ◌≡◌, ◌==◌, ◌≤◌, ◌⊎◌, ◌&&◌, nat_lt, if◌then◌else◌, zero, suc, Bool, true, Option, Some, None, is_some, Result, Ok, Err, is_err, [], ◌∷◌, length, take}
-use Rattle.std.specs.{Fmt.decimal, List.AllByRecursion, List.list_all, Option.option_map_or, Result.result_map_both, Result.result_unwrap_or}
-use Rattle.tc_rules.specs.Prelude.{IsBehaviours, IsName, Run, Entry, Op, answer, waiting, is_parked, is_wake}
+use Rattle.std.specs.{Prelude.{ℕ, List, codes, ◌<◌, ◌^◌, false, ◌++◌, ◌≡◌, ◌==◌, ◌≤◌, ◌⊎◌, ◌&&◌, nat_lt, if◌then◌else◌, zero, suc, Bool, true, Option, Some, None, is_some, Result, Ok, Err, [], ◌∷◌, length, take, is_err}, Fmt.decimal, List.{AllByRecursion, list_all}, Option.option_map_or, Result.{result_map_both, result_unwrap_or}}
+use Rattle.tc_rules.specs.{Prelude.{IsBehaviours, IsName, Run, Entry, Op, waiting, is_parked, is_wake, wake_op, entry_made}, declared.awaited.Awaited.Awaited}
 use Rattle.tc_text.specs.Prelude.{move_text, IsOp, EndsNumber}
-use Rattle.tc_blocks.specs.Prelude.{naming_text, said_text, IsSentence, entries_of, is_met}
-use Rattle.tc_rules.specs.declared.awaited.Awaited.{Awaited}
-use Rattle.tc_blocks.specs.declared.line.Line.{Line}
-use Rattle.tc_serve.specs.declared.{order.Order.Order, order.TheConstants.LINE_BYTES, order.Refusal.Refusal}
+use Rattle.tc_blocks.specs.{Prelude.{naming_text, said_text, IsSentence, entries_of, is_met}, declared.line.Line.Line}
+use Rattle.tc_serve.specs.declared.order.{Order.Order, TheConstants.LINE_BYTES, Refusal.Refusal}
 
 -- why the line is refused
 abbrev pub why_text : Refusal → List ℕ
@@ -57,20 +54,12 @@ pub record ServiceState : Type 0 where
 
 -- ---- a call, and who is woken by it
 
--- the entry of a call, with the component table's reply
-abbrev pub called : ℕ → List Line → Run → Op → Entry
-called n lines caller op = record { caller = caller; op = op; reply = answer n (entries_of lines) caller.0 op }
-
--- the call asks again for what a wait was for
-abbrev pub wake_op : Awaited → Op
-wake_op a = Op.Wake a.killed a.target
-
 -- run b, of which this is the wait if it sleeps, is woken if it can continue: the entry of its wake is added, unless that is
 -- replied parked
 abbrev pub woken_from : ℕ → List Line → ℕ → Option Awaited → List Line
 woken_from n lines b None = lines
 woken_from n lines b (Some a) =
-    let e = called n lines (record { 0 = b }) (wake_op a) in
+    let e = entry_made n (entries_of lines) (record { 0 = b }) (wake_op a) in
     if is_parked e.reply then lines else Line.Entry e ∷ lines
 
 -- so are the first k runs, in the order of their numbers, each judged after those before it
@@ -86,7 +75,7 @@ sleep_of p b = if nat_lt b p.behaviours then waiting (played_past p) b else None
 
 -- the test case after the call: its entry is added, and the wakes of all runs that can continue
 abbrev pub moved : Played → Run → Op → Played
-moved p caller op = record p { lines = woken p.behaviours (Line.Entry (called p.behaviours p.lines caller op) ∷ p.lines) p.behaviours }
+moved p caller op = record p { lines = woken p.behaviours (Line.Entry (entry_made p.behaviours (played_past p) caller op) ∷ p.lines) p.behaviours }
 
 -- the call is made, unless it is a wake or its run sleeps
 abbrev pub made : Run → Op → Played → Result Played Refusal
@@ -151,21 +140,20 @@ IsWhyNothing _ ended line = ⊥
 abbrev pub Refuses : Refusal → Bool → List ℕ → ServiceState → Type 0
 Refuses why ended line s = ((o : Order) × IsOrderOf ended line o × (after_order s o ≡ Err why)) ⊎ (((o : Order) → IsOrderOf ended line o → ⊥) × IsWhyNothing why ended line)
 
--- no run gets the refusal of the line
-abbrev pub IsNobodys : List ℕ → ServiceState → Type 0
-IsNobodys line s = (run : Run) (why : Refusal) → run.0 < 2 ^ 16 → IsOf line run.0 → is_err (refused s run why) ≡ true
-
 -- what comes of a line: what it asks for is done; or it is refused, and its run gets that; or no run does
 pub data Came : Type 0 where
   was_done : Order → Came
   was_refused : Run → Refusal → Came
   was_lost : Refusal → Came
 
--- this comes of a line in a state, and that is the state after it; outside a test case no line may be lost
+-- this comes of a line in a state, and that is the state after it. A line is lost if no run gets its refusal; outside a test
+-- case none may be
 abbrev pub Comes : Came → Bool → List ℕ → ServiceState → ServiceState → Type 0
 Comes (was_done o) ended line s t = IsOrderOf ended line o × (after_order s o ≡ Ok t)
 Comes (was_refused run why) ended line s t = Refuses why ended line s × IsOf line run.0 × (refused s run why ≡ Ok t)
-Comes (was_lost why) ended line s t = Refuses why ended line s × IsNobodys line s × (is_some s.current ≡ true) × (t ≡ s)
+Comes (was_lost why) ended line s t =
+    Refuses why ended line s × ((run : Run) (x : Refusal) → run.0 < 2 ^ 16 → IsOf line run.0 → is_err (refused s run x) ≡ true)
+    × (is_some s.current ≡ true) × (t ≡ s)
 
 -- what a line asked for that was done
 abbrev pub done_of : Came → Option Order

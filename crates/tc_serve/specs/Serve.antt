@@ -1,10 +1,8 @@
 -- The service: what is written and reported of the lines that came, what their verdicts come to, and how it ends.
-use Rattle.std.specs.Prelude.{MatchBool, ℕ, ◌+◌, if◌then◌else◌, Bool, List, [], ◌∷◌, ◌++◌, codes, length, map, reverse, ◌≡◌, ◌≢◌, ◌-◌, ◌≤◌, ◌^◌, ◌⊎◌, true, false, is_some, is_none, Option, Result, Ok, Err}
-use Rattle.std.specs.{Fmt.decimal, List.flat_map, Option.option_map_or, Io.KnownBytes.Appends, Io.KnownBytes.Consumes, Io.KnownBytes.IsAtEnd, List.list_any}
-use Rattle.tc_rules.specs.Prelude.{Verdict, worst, is_over, overall}
-use Rattle.tc_blocks.specs.Prelude.{end_text, line_text, with_lf, header_text}
-use Rattle.tc_blocks.specs.declared.header.{Header.Header, Kind.Kind}
-use Rattle.tc_serve.specs.{Protocol.Came, Protocol.Played, Protocol.Sent, Protocol.ServiceState, Protocol.played_past, Protocol.was_lost, Protocol.why_text, declared.order.Refusal.Refusal, Protocol.AllEnded, Protocol.AreServed, Protocol.NoLf, Protocol.Refuses, Protocol.done_of, Protocol.finished_state, Protocol.seen, declared.service.ServeFault.ServeFault, declared.service.Ending.Ending, declared.service.Served.Served}
+use Rattle.std.specs.{Prelude.{MatchBool, ℕ, ◌+◌, if◌then◌else◌, List, [], ◌∷◌, ◌++◌, codes, length, map, reverse, ◌≡◌, ◌≢◌, ◌-◌, ◌≤◌, ◌^◌, ◌⊎◌, true, false, is_some, is_none, Option, Result, Ok, Err}, Fmt.decimal, List.{flat_map, list_any}, Option.option_map_or, Io.KnownBytes.{Appends, Consumes, IsAtEnd}}
+use Rattle.tc_rules.specs.Prelude.{Verdict, worst, overall, is_over}
+use Rattle.tc_blocks.specs.{Prelude.{end_text, line_text, with_lf, header_text}, declared.header.{Header.Header, Kind.Kind}}
+use Rattle.tc_serve.specs.{Protocol.{Came, Played, Sent, ServiceState, played_past, was_lost, why_text, AllEnded, AreServed, NoLf, Refuses, done_of, finished_state, seen}, declared.{order.Refusal.Refusal, service.{ServeFault.ServeFault, Ending.Ending, Served.Served}}}
 use Rattle.tc_stream.specs.Prelude.{AppendsPrefix}
 
 -- what the first line of its evidence says
@@ -23,13 +21,9 @@ block p = opened_text p ++ with_lf (end_text (overall (played_past p)))
 abbrev pub stand_text : ServiceState → List ℕ
 stand_text s = flat_map block (reverse s.closed) ++ option_map_or opened_text s.current []
 
--- the verdict that a test case counts as: error if it is not over
-abbrev pub counted : Played → Verdict
-counted p = if is_over (played_past p) then overall (played_past p) else Verdict.Error
-
--- the worst of the test cases that were closed
+-- the worst of the test cases that were closed, each of which counts as error if it is not over
 abbrev pub worst_case : ServiceState → Verdict
-worst_case s = worst (map counted s.closed)
+worst_case s = worst (map (λ p. if is_over (played_past p) then overall (played_past p) else Verdict.Error) s.closed)
 
 -- the bytes of lines, the newest first in the list, each with its LF
 abbrev pub bytes_of : List Sent → List ℕ
@@ -49,10 +43,6 @@ lost_text n _ = []
 abbrev pub lines_messages : List Sent → List ℕ
 lines_messages [] = []
 lines_messages (l ∷ before) = lines_messages before ++ lost_text (length before + 1) l.came
-
--- and about the end of the input, by whether a test case is open
-abbrev pub end_told : Bool → List ℕ
-end_told inside = if inside then codes "ttrun: the input ended inside a test case" ++ (10 ∷ []) else []
 
 -- what is left of the input, and what the output and standard error took, if they are known
 pub record Devices : Type 0 where
@@ -82,7 +72,9 @@ pub data HasEnded (bytes : List ℕ) (input : Option (List ℕ)) (text reports :
   -- the input ended: its lines were served, and the test case that was open was closed
   served : (lines : List Sent) (s : ServiceState) (r : Served) → AreServed lines s → bytes ≡ bytes_of lines → IsAtEnd input
       → r.worst ≡ worst_case (finished_state s) → r.refused ≡ list_any (λ l. is_none (done_of l.came)) lines
-      → text ≡ stand_text (finished_state s) → reports ≡ lines_messages lines ++ end_told (is_some s.current) → HasEnded bytes input text reports (Ok r)
+      → text ≡ stand_text (finished_state s)
+      → reports ≡ lines_messages lines ++ (if is_some s.current then codes "ttrun: the input ended inside a test case" ++ (10 ∷ []) else [])
+      → HasEnded bytes input text reports (Ok r)
   -- or this fault came: these lines were served, and the rest was not; only a last line of the input may lack its LF
   stopped : (lines : List Sent) (s : ServiceState) (rest : List ℕ) (f : ServeFault) → AreServed lines s → bytes ≡ bytes_of lines ++ rest
       → AllEnded lines ⊎ ((rest ≡ []) × IsAtEnd input) → IsWhy f lines s rest input

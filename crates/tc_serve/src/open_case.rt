@@ -1,12 +1,12 @@
 //! A test case that is open.
 ghost use Rattle.std.specs.Prelude.{◌≡◌, ◌<◌, ◌++◌, ◌∷◌, [], nat_lt, true, ℕ, List, length, drop, IfOk, OnOk, None, ◌&&◌, if◌then◌else◌};
 ghost use Rattle.std.specs.{Io.StartsWith, Result.result_err};
-ghost use Rattle.tc_rules.specs.Prelude.{IsBehaviours, Op as AnyOp, Reply as AnyReply, is_parked, is_wake as spec_wake};
+ghost use Rattle.tc_rules.specs.Prelude.{IsBehaviours, Op as AnyOp, Reply as AnyReply, is_parked, started_run as spec_started};
 ghost use Rattle.tc_text.specs.Prelude.{move_text};
-ghost use Rattle.tc_blocks.specs.Prelude.{outcome_text, with_lf, entry_in, is_met, line_text, AreMet};
+ghost use Rattle.tc_blocks.specs.Prelude.{outcome_text, with_lf, entry_in, is_met, AreMet};
 ghost use Rattle.tc_rules.specs.Local as verdicts;
 ghost use Rattle.tc_rules.specs.Waiting as waits;
-ghost use Rattle.tc_serve.specs.{Inside.Becomes, Inside.BecomesAwake, Inside.Changes, Inside.IsCalled, Inside.IsOpen, Inside.IsPassed, Inside.Moves, Inside.after_call, Inside.entry, Inside.started as spec_started, Inside.wakes_nobody as spec_wakes_nobody, Inside.woken_once, Protocol.Played as AnyPlayed, Protocol.called, Protocol.made, Protocol.played_past, Protocol.sleep_of as spec_sleep, Protocol.why_text, Protocol.with_added_line, Protocol.with_name, Protocol.woken, Serve.counted as spec_counted};
+ghost use Rattle.tc_serve.specs.{Inside.{Becomes, BecomesAwake, Changes, IsCalled, IsOpen, IsPassed, Moves, after_call, entry, wakes_nobody as spec_wakes_nobody, woken_once, called, counted as spec_counted}, Protocol.{Played as AnyPlayed, made, played_past, sleep_of as spec_sleep, why_text, with_added_line, with_name, woken}};
 
 use crate::order::Refusal;
 use crate::sleepers::{Sleeper, add, awaited_by};
@@ -103,13 +103,6 @@ fn wakes_nobody(keeps_phases: bool, reply: Reply) -> bool
     }
 }
 
-// Whether the call is a wake.
-fn is_wake(op: &Op) -> bool
-    ensures { result ≡ spec_wake op.now }
-{
-    matches!(op, Op::Wake { .. })
-}
-
 impl OpenCase {
     /// A test case that was just opened.
     pub fn new(alloc: Global, behaviours: u16) -> Result<OpenCase, NoMemory>
@@ -134,7 +127,7 @@ impl OpenCase {
     fn bar(&self, caller: Run, op: &Op) -> Option<Refusal>
         ensures { (p : AnyPlayed) → IsOpen self.now p → result ≡ result_err (made caller op.now p) }
     {
-        if is_wake(op) {
+        if matches!(op, Op::Wake { .. }) {
             Some(Refusal::Wake)
         } else if self.sleep_of(caller).is_some() {
             Some(Refusal::Waiting)
@@ -158,18 +151,6 @@ impl OpenCase {
         self.has(run) && self.met.contains(run)
     }
 
-    // Appends the line, and adds it to what is kept of the lines; if memory runs out, a part of it is appended.
-    fn append(&mut self, line: &Line, out: &mut Vec<u8>) -> Result<(), NoMemory>
-        ensures met { (ls : List Line) → AreMet self.old.met ls → AreMet self.new.met (line.now ∷ ls) }
-        ensures state { self.new.state ≡ self.old.state }
-        ensures sleepers { self.new.sleepers ≡ self.old.sleepers }
-        ensures ok { OnOk result (out.new.items ≡ out.old.items ++ with_lf (line_text line.now)) }
-        ensures any { StartsWith out.new.items out.old.items }
-    {
-        self.met.add_line(line);
-        append_line(out, line)
-    }
-
     /// Adds the line of this run, which is no entry; why it is refused, if it is. If memory runs out, a part of it is
     /// appended.
     pub fn add(
@@ -185,7 +166,8 @@ impl OpenCase {
         if !self.has(run) {
             return Ok(Some(Refusal::NoRun));
         }
-        self.append(line, out)?;
+        append_line(out, line)?;
+        self.met.add_line(line);
         Ok(None)
     }
 

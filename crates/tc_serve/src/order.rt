@@ -137,34 +137,12 @@ fn read_other(text: &[u8]) -> Result<Order, Refusal>
         return Ok(Order::Named { run, name });
     }
     if let Some((name, number)) = read_case(text) {
-        return match as_behaviours(number) {
-            Some(behaviours) => Ok(Order::Case { name, behaviours }),
-            None => Err(Refusal::Behaviours),
-        };
+        let behaviours = as_behaviours(number).ok_or(Refusal::Behaviours)?;
+        return Ok(Order::Case { name, behaviours });
     }
     match after(text, b"end") {
         Some([]) => Ok(Order::End),
         _ => Err(Refusal::BadLine),
-    }
-}
-
-// What the line asks for, or why it asks for nothing, if it is not too long.
-fn read_short(alloc: Global, text: &[u8]) -> Result<Result<Order, Refusal>, NoMemory>
-    requires { length text.now < LINE_BYTES }
-    ensures spelled { IfOk result (λ found. IfOk found (λ o. text.now ≡ order_text o)) }
-    ensures fits { IfOk result (λ found. IfOk found IsOrder) }
-    ensures only { (o : Order) → IsOrder o → text.now ≡ order_text o → IfOk result (λ found. found ≡ Ok o) }
-    ensures why { IfOk result (λ found. IfErr found (λ why. IsWhyNothing why true text.now)) }
-{
-    if let Some((caller, op)) = read_move(text) {
-        return Ok(Ok(Order::Move { caller, op }));
-    }
-    let Some((run, bytes)) = read_remark(text) else {
-        return Ok(read_other(text));
-    };
-    match Sentence::of_bytes(alloc, bytes)? {
-        Some(sentence) => Ok(Ok(Order::Remark { run, sentence })),
-        None => Ok(Err(Refusal::BadRemark)),
     }
 }
 
@@ -175,9 +153,17 @@ pub(crate) fn read_order(alloc: Global, text: &[u8]) -> Result<Result<Order, Ref
     ensures only { (o : Order) → IsOrder o → text.now ≡ order_text o → IfOk result (λ found. found ≡ Ok o) }
     ensures why { IfOk result (λ found. IfErr found (λ why. IsWhyNothing why true text.now)) }
 {
-    if text.len() < LINE_BYTES {
-        read_short(alloc, text)
-    } else {
-        Ok(Err(Refusal::TooLong))
+    if text.len() >= LINE_BYTES {
+        return Ok(Err(Refusal::TooLong));
+    }
+    if let Some((caller, op)) = read_move(text) {
+        return Ok(Ok(Order::Move { caller, op }));
+    }
+    let Some((run, bytes)) = read_remark(text) else {
+        return Ok(read_other(text));
+    };
+    match Sentence::of_bytes(alloc, bytes)? {
+        Some(sentence) => Ok(Ok(Order::Remark { run, sentence })),
+        None => Ok(Err(Refusal::BadRemark)),
     }
 }

@@ -109,10 +109,7 @@ fn write_flushed<W: Write>(writer: &mut W, text: &[u8]) -> Result<(), WriteFault
     ensures part { OnErr result (AppendsPrefix (W.contents writer.old) (W.contents writer.new) text.now) }
 {
     write_whole(writer, text)?;
-    match writer.flush() {
-        Ok(()) => Ok(()),
-        Err(_) => Err(WriteFault),
-    }
+    writer.flush().map_err(|_| WriteFault)
 }
 
 impl<W: Write> FlushedWrite for FlushedWriter<'_, W> {

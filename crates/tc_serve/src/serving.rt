@@ -1,7 +1,7 @@
 //! Lines that come in pieces.
 ghost use Rattle.std.specs.Prelude.{◌≡◌, ◌≢◌, ◌<◌, ◌-◌, ◌++◌, ◌∷◌, [], ℕ, List, Option, Err, IfOk, IfErr, OnOk, OnErr, length, take};
 ghost use Rattle.std.specs.Io.{KnownBytes.IsAtEnd, StartsWith};
-ghost use Rattle.tc_serve.specs.{Inside.Closes, Inside.Fails, Inside.Feeds, Inside.IsEnd, Inside.IsFed, Inside.IsOwn, Inside.IsTurn, Inside.Serves, Inside.StopsIn, Inside.TakesPiece, Protocol.NoLf, Serve.HasEnded, Serve.end_told, Serve.refused_line_text};
+ghost use Rattle.tc_serve.specs.{Inside.{Closes, Fails, Feeds, IsEnd, IsFed, IsOwn, IsTurn, Serves, StopsIn, TakesPiece, end_told}, Protocol.NoLf, Serve.{HasEnded, refused_line_text}};
 
 use crate::order::{LINE_BYTES, Refusal};
 use crate::server::Server;
@@ -301,14 +301,9 @@ impl Serving {
         ensures own { IfErr result IsOwn }
     {
         if bytes.is_empty() {
-            return match self.finish(alloc, out, told) {
-                Ok(served) => Ok(Some(served)),
-                Err(fault) => Err(fault),
-            };
+            return Ok(Some(self.finish(alloc, out, told)?));
         }
-        match self.feed(alloc, bytes, out, told) {
-            Ok(()) => Ok(None),
-            Err(fault) => Err(fault),
-        }
+        self.feed(alloc, bytes, out, told)?;
+        Ok(None)
     }
 }

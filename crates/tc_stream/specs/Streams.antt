@@ -1,7 +1,7 @@
 -- Whole inputs and outputs, their faults, and the readers and writers for tests.
 use Rattle.std.specs.{Prelude.{ℕ, ◌≡◌, ◌≤◌, List, Option, IfSome, length, take, codes}, Io.KnownBytes.Appends}
 use Rattle.tc_verdict.specs.Prelude.{memory_text}
-use Rattle.tc_stream.specs.declared.{devices.NarrowWriter.NarrowWriter, input.InputFault.InputFault}
+use Rattle.tc_stream.specs.declared.input.InputFault.{InputFault}
 
 -- the input was read whole: a text of at most that many bytes, which is what the input holds if that is known; and this
 -- is so of it
@@ -21,7 +21,3 @@ input_text InputFault.NoMemory = memory_text
 -- why an output did not go out
 abbrev pub write_text : List ℕ
 write_text = codes "write fault"
-
--- the next write is the one that fails
-abbrev pub FailsNext : NarrowWriter → Type 0
-FailsNext w = w.writes ≡ w.fails_at

@@ -1,6 +1,5 @@
 //! Readers and writers for tests: each moves one byte at a time, and fails at one call.
-ghost use Rattle.std.specs.{Prelude.{◌≡◌, ◌<◌, ◌≤◌, ◌+◌, ◌↔◌, [], Some, Ok, IfOk, IfErr, IsErr, IsErrAnd, IsOk, MatchResult, length, min}, Io.KnownBytes.{Keeps, ReadConsumes, WriteAppends}, Io.{ReadsAtMost, WritesAtMost}, IoError.error_kind};
-ghost use Rattle.tc_stream.specs.Streams.{FailsNext};
+ghost use Rattle.std.specs.{Prelude.{◌≡◌, ◌≢◌, ◌<◌, ◌≤◌, ◌+◌, ◌↔◌, [], Some, Ok, IfOk, IfErr, IsErr, IsErrAnd, IsOk, MatchResult, length, min}, Io.KnownBytes.{Keeps, ReadConsumes, WriteAppends}, Io.{ReadsAtMost, WritesAtMost}, IoError.error_kind};
 
 use std::alloc::Global;
 use std::io;
@@ -109,9 +108,9 @@ impl Write for NarrowWriter {
     fn write(&mut self, buf: &[u8]) -> io::Result<usize>
         ensures bound { WritesAtMost result buf.now }
         ensures bytes { WriteAppends (Some self.old.taken.items) (Some self.new.taken.items) result buf.now }
-        ensures takes { (FailsNext self.old → ⊥) → MatchResult result (λ n. n ≡ min 1 (length buf.now)) (λ e. error_kind e ≡ ErrorKind.OutOfMemory) }
-        ensures broken { FailsNext self.old → self.old.failure ≡ WriteFailure.Broken → IsErrAnd result (λ e. error_kind e ≡ ErrorKind.BrokenPipe) }
-        ensures full { FailsNext self.old → self.old.failure ≡ WriteFailure.Full → result ≡ Ok 0 }
+        ensures takes { self.old.writes ≢ self.old.fails_at → MatchResult result (λ n. n ≡ min 1 (length buf.now)) (λ e. error_kind e ≡ ErrorKind.OutOfMemory) }
+        ensures broken { self.old.writes ≡ self.old.fails_at → self.old.failure ≡ WriteFailure.Broken → IsErrAnd result (λ e. error_kind e ≡ ErrorKind.BrokenPipe) }
+        ensures full { self.old.writes ≡ self.old.fails_at → self.old.failure ≡ WriteFailure.Full → result ≡ Ok 0 }
         ensures counted { self.old.writes < usize.MAX → self.new.writes ≡ self.old.writes + 1 }
         ensures same { (self.new.fails_at ≡ self.old.fails_at) × (self.new.failure ≡ self.old.failure) }
     {

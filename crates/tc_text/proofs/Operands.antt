@@ -1,7 +1,7 @@
 -- The first words of operations, and what operations are about, read from the text after these.
 use Rattle.std.{proofs.{Common.{◌≡◌, ◌≢◌, ◌∙◌, true, false, Some, None, ℕ, List, ◌++◌, codes, refl, ap, sym, append_assoc, ◌<◌, ◌≤◌, ◌+◌, ◌^◌, [], ◌∷◌, length, arith}, lemmas.Grind.common_steps}, specs.Fmt.decimal}
 use Rattle.tc_entry.specs.{declared.comp.Comp.Comp, declared.limits.TheConstants.ARGUMENTS, declared.op.Group.Group, declared.op.Op.Op, declared.op.Target.Target, Prelude.Run}
-use Rattle.tc_text.{specs.{Inside.{IsWait, operand_text, status_text, verb_of, verb_text, start_text}, Reading.{EndsMove, EndsNumber}, Spelling.{AreComps, IsComp, IsGroup, IsTarget, args_text, group_text, op_text, target_text}, declared.verb.Status.Status, declared.verb.Verb.Verb}, proofs.Lemmas.Digits.{digit_first, no_letter}}
+use Rattle.tc_text.{specs.{Inside.{IsWait, operand_text, status_text, verb_of, verb_text, start_text, AreComps}, Reading.{EndsMove, EndsNumber}, Spelling.{IsComp, IsGroup, IsTarget, args_text, group_text, op_text, target_text}, declared.verb.{Status.Status, Verb.Verb}}, proofs.Lemmas.Digits.{digit_first, no_letter}}
 
 -- an operation is its first words and what follows them
 pub op_words : (op : Op) → op_text op ≡ verb_text (verb_of op) ++ operand_text op
@@ -31,10 +31,7 @@ no_wait Status.WaitDone text rest a b c d is e = a rest e
 no_wait Status.WaitKilled text rest a b c d is e = b rest e
 no_wait Status.WakeDone text rest a b c d is e = c rest e
 no_wait Status.WakeKilled text rest a b c d is e = d rest e
-no_wait Status.Running text rest a b c d is e = is
-no_wait Status.Alive text rest a b c d is e = is
-no_wait Status.Done text rest a b c d is e = is
-no_wait Status.Killed text rest a b c d is e = is
+no_wait _ text rest a b c d is e = is
 
 -- what reading a number shows: it is the number of each spelling that the text begins with
 abbrev pub IsThatNumber : List ℕ → ℕ → List ℕ → Type 0

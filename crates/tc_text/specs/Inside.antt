@@ -1,7 +1,15 @@
 -- What only the way the texts are read needs: no public clause names a word of this file.
-use Rattle.std.specs.{Prelude.{ℕ, ◌≡◌, ◌≢◌, ◌<◌, ◌≤◌, ◌+◌, ◌-◌, ◌*◌, ◌^◌, ◌++◌, codes, drop, length, take, Bool, true, false, if◌then◌else◌, List, [], ◌∷◌, Option, Some, None, MatchOption, slice_get}, Borrow.Bor, Char.is_ascii_digit, Fmt.decimal, Str.all_ascii_digits}
+use Rattle.std.specs.{Prelude.{ℕ, ◌≡◌, ◌≢◌, ◌<◌, ◌≤◌, ◌+◌, ◌-◌, ◌*◌, ◌^◌, ◌++◌, codes, drop, length, take, Bool, true, false, if◌then◌else◌, List, [], ◌∷◌, Option, Some, None, MatchOption, slice_get}, Borrow.Bor, Char.is_ascii_digit, Fmt.decimal, Str.all_ascii_digits, List.AllByRecursion}
 use Rattle.tc_entry.specs.{Prelude.{Run, given, name_of}, declared.comp.Comp.Comp, declared.op.Op.Op, declared.op.Target.Target}
-use Rattle.tc_text.specs.{MoveList.IsMove, MoveList.Move, MoveList.lines_of, MoveList.move_line, Said.ends_word, Spelling.args_text, Spelling.group_text, Spelling.target_text, declared.said.Part.Part, declared.verb.Status.Status, declared.verb.Verb.Verb}
+use Rattle.tc_text.specs.{MoveList.{IsMove, Move, lines_of, move_line}, Said.{ends_word, is_plain}, Spelling.{args_text, group_text, target_text, IsComp}, declared.{said.Part.Part, verb.{Status.Status, Verb.Verb}}}
+
+-- the byte, or a question mark for one that is not printable
+abbrev pub as_printable : ℕ → ℕ
+as_printable b = if is_plain b then b else 63
+
+-- components, each with a number of 32 bits
+abbrev pub AreComps : List Comp → Type 0
+AreComps cs = AllByRecursion IsComp cs
 
 -- this value was read of a line, and these lines are after it
 abbrev pub TakesLine : {A : Type 0} → Option (A × Bor (List ℕ)) → A → List (List ℕ) → Type 0

@@ -1,6 +1,6 @@
 -- Bytes that are shown to a reader, and lines for a reader next to an answer, by what matters of each: its numbers and
 -- its names. No clause spells the prose around them.
-use Rattle.std.specs.{Prelude.{ℕ, ◌&&◌, nat_le, Bool, ◌≡◌, ◌⊎◌, not, true, if◌then◌else◌, List, [], ◌∷◌, ◌++◌, map}, Fmt.decimal}
+use Rattle.std.specs.{Prelude.{ℕ, ◌&&◌, nat_le, Bool, ◌≡◌, ◌⊎◌, not, true, List, [], ◌∷◌, ◌++◌, map, if◌then◌else◌}, Fmt.decimal}
 use Rattle.tc_entry.specs.Prelude.{is_name_byte}
 use Rattle.tc_text.specs.declared.said.Part.{Part}
 
@@ -23,13 +23,9 @@ Holds [] text = Unit {0}
 Holds (word ∷ words) text =
     (front : List ℕ) × (rest : List ℕ) × (text ≡ front ++ (32 ∷ (word ++ rest))) × (ends_word rest ≡ true) × Holds words rest
 
--- the byte, or a question mark for one that is not printable
-abbrev pub as_printable : ℕ → ℕ
-as_printable b = if is_plain b then b else 63
-
 -- a line of this text: it begins with a space, and has a question mark for each byte that is not printable
 abbrev pub shown_line : List ℕ → List ℕ
-shown_line text = 32 ∷ (map as_printable text ++ 10 ∷ [])
+shown_line text = 32 ∷ (map (λ b. if is_plain b then b else 63) text ++ 10 ∷ [])
 
 -- one line is appended, which begins with a space and holds these words
 unfoldable pub TellsLine : Line → List ℕ → List ℕ → Type 0

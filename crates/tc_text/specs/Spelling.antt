@@ -1,5 +1,5 @@
 -- The one spelling of each move and each reply; it is this project's own.
-use Rattle.std.specs.{Prelude.{ℕ, ◌<◌, ◌≤◌, ◌^◌, true, false, Some, IfSome, if◌then◌else◌, List, [], ◌++◌, length, codes}, Fmt.decimal, List.{AllByRecursion, flat_map}, Option.option_map_or}
+use Rattle.std.specs.{Prelude.{ℕ, ◌<◌, ◌≤◌, ◌^◌, true, false, Some, IfSome, if◌then◌else◌, List, [], ◌++◌, length, codes}, Fmt.decimal, List.{flat_map, AllByRecursion}, Option.option_map_or}
 use Rattle.tc_entry.specs.{declared.comp.Comp.Comp, declared.limits.TheConstants.ARGUMENTS, declared.op.Group.Group, declared.op.Op.Op, declared.op.Target.Target, declared.reply.Reply.Reply, Prelude.{IsName, fault_name, given, name_of}}
 
 -- a component by its number, or all of them
@@ -70,14 +70,10 @@ abbrev pub IsTarget : Target → Type 0
 IsTarget (Target.One c) = IsComp c
 IsTarget _ = Unit {0}
 
--- components, each with a number of 32 bits
-abbrev pub AreComps : List Comp → Type 0
-AreComps cs = AllByRecursion IsComp cs
-
 -- an operation whose numbers are those of their types, with at most four arguments, and whose name is one
 abbrev pub IsOp : Op → Type 0
 IsOp (Op.Create alive name) = IfSome name IsName
-IsOp (Op.Start c run args) = IsComp c × (run.0 < 2 ^ 16) × (length args ≤ ARGUMENTS) × AreComps args
+IsOp (Op.Start c run args) = IsComp c × (run.0 < 2 ^ 16) × (length args ≤ ARGUMENTS) × AllByRecursion IsComp args
 IsOp (Op.Stop g) = IsGroup g
 IsOp (Op.Kill g) = IsGroup g
 IsOp (Op.Running t) = IsTarget t

@@ -1,6 +1,6 @@
 //! Lines for a reader next to an answer, by their parts.
 ghost use Rattle.std.specs.Prelude.{◌≡◌, ◌++◌, [], ◌∷◌, IfOk, OnOk, flat_map, map};
-ghost use Rattle.tc_text.specs.{Inside.part_text, Inside.prose_text, Said.TellsLine, Said.as_printable as printable_byte, Said.ends_word as word_ends, Said.part_words, Said.shown_line};
+ghost use Rattle.tc_text.specs.{Inside.{part_text, prose_text, as_printable as printable_byte}, Said.{TellsLine, ends_word as word_ends, part_words, shown_line}};
 
 use crate::append::append_number;
 use crate::shown::is_plain;

@@ -4,7 +4,7 @@
 use std::io::IsTerminal;
 use std::process::ExitCode;
 use std::{env, io};
-use tc_program::{Announcing, answer, awaited_line};
+use tc_program::{Announcing, Arguments, answer, awaited_line};
 
 fn words(rt: &HostRuntime) -> io::Result<Vec<String>> {
     Ok(env::args(rt)?.collect(rt.alloc())?)
@@ -29,12 +29,14 @@ fn main(rt: HostRuntime) -> ExitCode {
         line,
     };
     let mut errors = rt.stderr();
-    let at_terminal = errors.is_terminal();
+    let arguments = Arguments {
+        words,
+        at_terminal: errors.is_terminal(),
+    };
     let outcome = answer(
         &rt,
         rt.alloc(),
-        words,
-        at_terminal,
+        arguments,
         &mut input,
         &mut io::writer(&rt),
         &mut errors,

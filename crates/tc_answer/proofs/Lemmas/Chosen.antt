@@ -1,16 +1,12 @@
 -- The chosen ones of the test cases that were made of a script are those of the chosen ones of the script, and all
 -- shards together have each. The number of a line before its words.
-use Rattle.std.proofs.Common.{ℕ, ◌≡◌, ◌∙◌, ◌+◌, ◌&&◌, ◌||◌, Bool, true, false, List, [], ◌∷◌, Option, Some, None, Ok, All, ap, ap₂, refl, subst, sym, true≢false, ◌++◌, codes, append_assoc, ◌%◌}
-use Rattle.std.proofs.lemmas.{Bool.eq-eqb, Bool.eqb-true, List.Elements.All-cons, List.Elements.All-head, List.Elements.All-tail}
-use Rattle.std.specs.{Fmt.decimal, List.AllZip, List.list_any}
-use Rattle.std.specs.Prelude.{filter, if◌then◌else◌, map}
-use Rattle.std.proofs.Math.Nat.{mod-lt}
+use Rattle.std.{proofs.{Common.{ℕ, ◌≡◌, ◌∙◌, ◌+◌, ◌&&◌, ◌||◌, Bool, true, false, List, [], ◌∷◌, Option, Some, None, Ok, All, ap, ap₂, refl, subst, sym, true≢false, ◌++◌, codes, append_assoc, ◌%◌}, lemmas.{Bool.{eq-eqb, eqb-true}, List.Elements.{All-cons, All-head, All-tail}}, Math.Nat.mod-lt}, specs.{Fmt.decimal, List.{AllZip, list_any}, Prelude.{filter, if◌then◌else◌, map}}}
 use Rattle.tc_rules.specs.Prelude.{matches, ShardView, has_place}
 use Rattle.tc_exec.specs.declared.test_case.Case.{Case}
 use Rattle.tc_step.specs.Prelude.{ScriptView}
 use Rattle.tc_command.specs.declared.task.Choice.{Choice}
 use Rattle.tc_reader.specs.Prelude.{CampaignView, campaign, IsCase, Word, among, has_twice, is_text}
-use Rattle.tc_answer.specs.{Choosing.CaseView, Choosing.RefusesChoice, Choosing.ShardsAreAll, Choosing.case_name, Choosing.chosen, Choosing.have_names, Choosing.is_asked, Choosing.placed_in_shard, Inside.AreReady, Inside.AreReadyAs, Inside.IsCaseOf, Inside.RefusesNames, Inside.case_parts, Inside.named, Inside.place_text, Inside.script_name, declared.fault.RunFault.RunFault}
+use Rattle.tc_answer.specs.{Choosing.{CaseView, RefusesChoice, ShardsAreAll, case_name, chosen, have_names, is_asked, placed_in_shard}, Inside.{AreReady, AreReadyAs, IsCaseOf, RefusesNames, case_parts, named, place_text, script_name}, declared.fault.RunFault.RunFault}
 
 module _ {C : Type 0} (P : C → Type 0) where
   all_with : (b : Bool) (c : C) (cs : List C) → P c → All P cs → All P (if b then c ∷ cs else cs)
@@ -200,10 +196,8 @@ place_of : (s : ShardView) (place : ℕ) → has_place s place ≡ true → plac
 place_of s place has = eqb-true (place % s.shards) s.place has
 
 pub shards_are_all : ShardsAreAll
-shards_are_all shards some place = record {
-  holder = record { place = place % shards; shards = shards };
-  is_shard = mod-lt place some;
-  is_of = refl;
-  has = eq-eqb (place % shards) (place % shards) refl;
-  alone = λ s is_shard is_of has. sym (place_of s place has) ∙ ap (λ n. place % n) is_of;
-}
+shards_are_all shards some place = (
+  place % shards,
+  mod-lt place some,
+  λ s is_shard is_of. (λ has. sym (place_of s place has) ∙ ap (λ n. place % n) is_of, λ is. eq-eqb (place % s.shards) s.place (ap (λ n. place % n) is_of ∙ sym is)),
+)

@@ -1,7 +1,5 @@
 -- What is kept, and what is so of an answer.
-use Rattle.std.proofs.Common.{ℕ, ◌≡◌, List, [], Option, None, Some, IfOk, IfErr, Result, Ok, Err, refl}
-use Rattle.std.specs.Prelude.{MatchResult}
-use Rattle.std.specs.{Global.Vec, Io.KnownBytes.Keeps}
+use Rattle.std.{proofs.Common.{ℕ, ◌≡◌, List, [], Option, None, Some, IfOk, IfErr, Result, Ok, Err, refl}, specs.{Prelude.MatchResult, Global.Vec, Io.KnownBytes.Keeps}}
 
 pub keeps_same : (held : Option (List ℕ)) → Keeps held held
 keeps_same None = tt

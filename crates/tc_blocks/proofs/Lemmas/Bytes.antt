@@ -1,11 +1,8 @@
 -- The bytes of evidence.
-use Rattle.std.proofs.Common.{ℕ, ◌≡◌, ◌∙◌, ◌<◌, ◌^◌, ◌+◌, ◌==◌, ◌&&◌, Bool, true, false, if◌then◌else◌, All, IsTrue, Some, None, List, [], ◌∷◌, ◌++◌, codes, length, map, refl, sym, subst, arith}
-use Rattle.std.specs.{Char.is_ascii_digit, Fmt.decimal, List.AllByRecursion, List.list_all, List.onto_first, Str.all_ascii_digits}
-use Rattle.std.proofs.lemmas.{Bool.Decides.nat_tests, List.Elements.All-head, List.Elements.All-tail, List.Folds.list_all-append}
+use Rattle.std.{proofs.{Common.{ℕ, ◌≡◌, ◌∙◌, ◌<◌, ◌^◌, ◌+◌, ◌==◌, ◌&&◌, Bool, true, false, if◌then◌else◌, All, IsTrue, Some, None, List, [], ◌∷◌, ◌++◌, codes, length, map, refl, sym, subst, arith}, lemmas.{Bool.Decides.nat_tests, List.{Elements.{All-head, All-tail}, Folds.list_all-append}}}, specs.{Char.is_ascii_digit, Fmt.decimal, List.{AllByRecursion, list_all, onto_first}, Str.all_ascii_digits}}
 use Rattle.tc_rules.specs.Prelude.{Verdict, name_of, given, IsBehaviours, IsName, is_name_byte, fault_name, Comp, Entry, Group, Target, Op, Fault, Reply}
-use Rattle.tc_text.specs.Prelude.{lines_of, is_plain, AreComps, IsGroup, IsOp, IsReply, IsTarget, args_text, group_text, move_text, op_text, reply_text, start_text, target_text}
-use Rattle.tc_text.proofs.Lemmas.{Digits.both, Digits.spelled_digits, LinesOf.NoLf}
-use Rattle.tc_blocks.specs.{Block.header_text, Block.kind_text, HistoryBlock.end_text, HistoryBlock.entry_text, HistoryText.IsEntry, Inside.mark_text, Laws.BytesOfEvidence, Laws.IsSaid, Laws.is_quiet_byte, Laws.is_text_byte, Line.line_text, Line.naming_text, Line.said_text, Text.AreBlocks, Text.AreLines, Text.IsHeader, Text.IsLine, Text.all_lines, Text.block_lines, Text.format_of, declared.block.Block.Block, declared.header.Header.Header, declared.header.Kind.Kind, declared.line.Line.Line}
+use Rattle.tc_text.{specs.Prelude.{lines_of, is_plain, AreComps, IsGroup, IsOp, IsReply, IsTarget, args_text, group_text, move_text, op_text, reply_text, start_text, target_text}, proofs.Lemmas.{Digits.{both, spelled_digits}, LinesOf.NoLf}}
+use Rattle.tc_blocks.specs.{Block.{header_text, kind_text}, HistoryBlock.{end_text, entry_text}, HistoryText.IsEntry, Inside.mark_text, Laws.{IsSaid, is_quiet_byte, is_text_byte}, Line.{line_text, naming_text, said_text}, Text.{AreBlocks, AreEvidence, AreLines, IsHeader, IsLine, all_lines, block_lines, format_of}, declared.{block.Block.Block, header.{Header.Header, Kind.Kind}, line.Line.Line}}
 
 abbrev pub AreQuiet : List ℕ → Type 0
 AreQuiet bs = list_all is_quiet_byte bs ≡ true
@@ -56,8 +53,7 @@ group_quiet Group.All fits = refl
 
 target_quiet : (t : Target) → IsTarget t → AreQuiet (target_text t)
 target_quiet (Target.One c) fits = number_quiet c.0 fits
-target_quiet Target.Any fits = refl
-target_quiet Target.All fits = refl
+target_quiet _ fits = refl
 
 args_quiet : (cs : List Comp) → AreComps cs → AreQuiet (args_text cs)
 args_quiet [] fits = refl
@@ -65,10 +61,7 @@ args_quiet (c ∷ cs) fits = quiet-append (codes " ") (decimal c.0 ++ args_text 
 
 verdict_quiet : (v : Verdict) → AreQuiet (name_of v)
 verdict_quiet Verdict.None = refl
-verdict_quiet Verdict.Pass = refl
-verdict_quiet Verdict.Inconc = refl
-verdict_quiet Verdict.Fail = refl
-verdict_quiet Verdict.Error = refl
+verdict_quiet _ = refl
 
 op_quiet : (op : Op) → IsOp op → AreQuiet (op_text op)
 op_quiet (Op.Create false None) fits = refl
@@ -82,7 +75,6 @@ op_quiet (Op.Start c run args) fits =
     (quiet-append (decimal run.0) (args_text args) (number_quiet run.0 (let low = fits.1 in omega (arith, low))) (args_quiet args fits.3))))
 op_quiet (Op.Stop g) fits = quiet-append (codes "stop ") (group_text g) refl (group_quiet g fits)
 op_quiet (Op.Kill g) fits = quiet-append (codes "kill ") (group_text g) refl (group_quiet g fits)
-op_quiet Op.StopCase fits = refl
 op_quiet (Op.Running t) fits = quiet-append (codes "running ") (target_text t) refl (target_quiet t fits)
 op_quiet (Op.Alive t) fits = quiet-append (codes "alive ") (target_text t) refl (target_quiet t fits)
 op_quiet (Op.Done t) fits = quiet-append (codes "done ") (target_text t) refl (target_quiet t fits)
@@ -92,8 +84,7 @@ op_quiet (Op.Wait true t) fits = quiet-append (codes "wait killed ") (target_tex
 op_quiet (Op.Wake false t) fits = quiet-append (codes "wake done ") (target_text t) refl (target_quiet t fits)
 op_quiet (Op.Wake true t) fits = quiet-append (codes "wake killed ") (target_text t) refl (target_quiet t fits)
 op_quiet (Op.SetVerdict v) fits = quiet-append (codes "setverdict ") (name_of (given v)) refl (verdict_quiet (given v))
-op_quiet Op.GetVerdict fits = refl
-op_quiet Op.Finish fits = refl
+op_quiet _ fits = refl
 
 move_quiet : (run : ℕ) (op : Op) → run < 2 ^ 16 → IsOp op → AreQuiet (move_text run op)
 move_quiet run op low fits =
@@ -102,24 +93,15 @@ move_quiet run op low fits =
 
 fault_quiet : (f : Fault) → AreQuiet (fault_name f)
 fault_quiet Fault.NoComponent = refl
-fault_quiet Fault.NotMain = refl
-fault_quiet Fault.StartMain = refl
-fault_quiet Fault.AlreadyRunning = refl
-fault_quiet Fault.NotStartable = refl
-fault_quiet Fault.NoBehaviour = refl
-fault_quiet Fault.TooMany = refl
-fault_quiet Fault.Stuck = refl
+fault_quiet _ = refl
 
 reply_quiet : (r : Reply) → IsReply r → AreQuiet (reply_text r)
 reply_quiet (Reply.Made c) fits = quiet-append (codes "made ") (decimal c.0) refl (number_quiet c.0 fits)
-reply_quiet Reply.Ok fits = refl
+reply_quiet (Reply.Local v) fits = verdict_quiet v
+reply_quiet (Reply.Fault f) fits = quiet-append (codes "error ") (fault_name f) refl (fault_quiet f)
 reply_quiet (Reply.Answer true) fits = refl
 reply_quiet (Reply.Answer false) fits = refl
-reply_quiet (Reply.Local v) fits = verdict_quiet v
-reply_quiet Reply.Matched fits = refl
-reply_quiet Reply.Parked fits = refl
-reply_quiet Reply.Ended fits = refl
-reply_quiet (Reply.Fault f) fits = quiet-append (codes "error ") (fault_name f) refl (fault_quiet f)
+reply_quiet _ fits = refl
 
 -- ---- the lines of a block
 
@@ -135,8 +117,7 @@ end_quiet v = quiet-append (codes "end ") (name_of v) refl (verdict_quiet v)
 
 kind_quiet : (k : Kind) → AreQuiet (kind_text k)
 kind_quiet Kind.History1 = refl
-kind_quiet Kind.History2 = refl
-kind_quiet Kind.Evidence = refl
+kind_quiet _ = refl
 
 pub header_quiet : (h : Header) → IsHeader h → AreQuiet (header_text h)
 header_quiet h header =
@@ -181,8 +162,7 @@ below k n few is = let most = is.1 in omega (arith, few, most)
 pub line_quiet : (kind : Kind) (n : ℕ) (before : List Line) (l : Line) → IsBehaviours n → IsLine kind n before l → (IsSaid l → ⊥) → AreQuiet (line_text l)
 line_quiet kind n before (Line.Named run name) is fits quiet = naming_quiet run.0 name (below run.0 n fits.few is) fits.name_is
 line_quiet kind n before (Line.Entry e) is fits quiet = entry_quiet (format_of kind) e fits
-line_quiet kind n before (Line.Remark run sentence) is fits quiet = absurd (quiet tt)
-line_quiet kind n before (Line.Refused run sentence) is fits quiet = absurd (quiet tt)
+line_quiet kind n before _ is fits quiet = absurd (quiet tt)
 
 pub line_plain : (kind : Kind) (n : ℕ) (before : List Line) (l : Line) → IsBehaviours n → IsLine kind n before l → AreAllPlain (line_text l)
 line_plain kind n before (Line.Named run name) is fits = quiet_plain (naming_text run.0 name) (naming_quiet run.0 name (below run.0 n fits.few is) fits.name_is)
@@ -243,10 +223,7 @@ text_plain (b ∷ bs) all = by_test (b == 10) refl all (λ rest. text_plain bs r
     by_test false other all more =
         let two = first_plain b (lines_of bs) all in from_both (is_text_byte b) (list_all is_text_byte bs) (plain_is b two.0) (more two.1)
 
-pub bytes_of_evidence : BytesOfEvidence
-bytes_of_evidence = record {
-  text_bytes = λ text blocks are. text_plain text (subst (AllByRecursion AreAllPlain) (sym are.lines) (blocks_plain 1 blocks are.fits));
-  first_bytes = header_quiet;
-  last_bytes = end_quiet;
-  line_bytes = line_quiet;
-}
+pub evidence_bytes : (text : List ℕ) (blocks : List Block) → AreEvidence text blocks → list_all is_text_byte text ≡ true
+evidence_bytes text blocks are = text_plain text (subst (AllByRecursion AreAllPlain) (sym are.lines) (blocks_plain 1 blocks are.fits))
+
+pub ruleset byte_rules = (evidence_bytes, header_quiet, end_quiet, line_quiet)

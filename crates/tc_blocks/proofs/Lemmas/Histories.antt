@@ -1,14 +1,11 @@
 -- Texts of histories are evidence, and are written as it.
-use Rattle.std.proofs.Common.{ℕ, ◌≡◌, ◌≢◌, ◌∙◌, ◌+◌, List, [], ◌∷◌, ◌++◌, codes, length, map, ap, sym, refl, append_assoc}
-use Rattle.std.specs.{Fmt.decimal, List.flat_map}
+use Rattle.std.{proofs.Common.{ℕ, ◌≡◌, ◌≢◌, ◌∙◌, ◌+◌, List, [], ◌∷◌, ◌++◌, codes, length, map, ap, sym, refl, append_assoc}, specs.{Fmt.decimal, List.flat_map}}
 use Rattle.tc_text.specs.Prelude.{lines_of}
-use Rattle.tc_blocks.specs.{Block.header_text, Block.kind_text, Block.with_lf, Histories.HistoriesAreRead, Histories.IsHistoryHeader, Histories.text_of_history, HistoryBlock.end_text, HistoryBlock.entry_line, HistoryBlock.format_text, Laws.history_of, Line.entries_of, Line.line_text, Text.AreBlocks, Text.AreLines, Text.IsHeader, Text.block_lines, Text.format_of, Written.text_of_block, declared.block.Block.Block, declared.header.Kind.Kind, declared.line.Line.Line}
-use Rattle.tc_blocks.proofs.Lemmas.WrittenEvidence.{written_lines}
+use Rattle.tc_blocks.{specs.{Block.{header_text, kind_text, with_lf}, Histories.{AreHistories, IsHistoryHeader}, Inside.{text_of_history, text_of_block, format_text}, HistoryBlock.{end_text, entry_line}, Laws.history_of, Line.{entries_of, line_text}, Text.{AreBlocks, AreEvidence, AreLines, IsHeader, block_lines, format_of}, declared.{block.Block.Block, header.Kind.Kind, history_block.History.History, line.Line.Line}}, proofs.Lemmas.WrittenEvidence.written_lines}
 
 kind_words : (k : Kind) → k ≢ Kind.Evidence → format_text (format_of k) ≡ kind_text k
-kind_words Kind.History1 other = refl
-kind_words Kind.History2 other = refl
 kind_words Kind.Evidence other = absurd (other refl)
+kind_words _ other = refl
 
 -- a history has entries only
 entries_ended : (kind : Kind) (n : ℕ) (before ls : List Line) → kind ≢ Kind.Evidence → AreLines kind n before ls → flat_map entry_line (entries_of ls) ≡ flat_map (λ l. with_lf (line_text l)) ls
@@ -36,8 +33,10 @@ any_kind : (line : ℕ) (bs : List Block) → AreBlocks IsHistoryHeader line bs 
 any_kind line [] are = tt
 any_kind line (b ∷ bs) are = (record { header = are.0.header.0; inside = are.0.inside; first = are.0.first }, any_kind (line + length (block_lines b)) bs are.1)
 
-pub histories_are_read : HistoriesAreRead
-histories_are_read = record {
-  evidence = λ text histories are. (are.0, record { some = are.1.some; fits = any_kind 1 are.0 are.1.fits; lines = are.1.lines }, are.2);
-  written = λ blocks some are. (blocks, record { some = some; fits = are; lines = ap lines_of (texts_are 1 blocks are) ∙ written_lines 1 blocks (any_kind 1 blocks are) }, refl);
-}
+pub are_evidence : (text : List ℕ) (histories : List History) → AreHistories text histories → (blocks : List Block) × AreEvidence text blocks × (histories ≡ map history_of blocks)
+are_evidence text histories are = (are.0, record { some = are.1.some; fits = any_kind 1 are.0 are.1.fits; lines = are.1.lines }, are.2)
+
+pub are_read : (blocks : List Block) → blocks ≢ [] → AreBlocks IsHistoryHeader 1 blocks → AreHistories (flat_map text_of_history (map history_of blocks)) (map history_of blocks)
+are_read blocks some are = (blocks, record { some = some; fits = are; lines = ap lines_of (texts_are 1 blocks are) ∙ written_lines 1 blocks (any_kind 1 blocks are) }, refl)
+
+pub ruleset history_rules = (are_evidence, are_read)

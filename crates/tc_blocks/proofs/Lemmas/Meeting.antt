@@ -1,6 +1,6 @@
 -- The runs that lines are about.
 use Rattle.std.proofs.Common.{ℕ, ◌≡◌, ◌∙◌, ◌||◌, Bool, true, false, List, [], ◌∷◌, ◌++◌, ap, refl}
-use Rattle.tc_blocks.specs.{Line.is_about, Line.is_met, Met.AreMet, declared.line.Line.Line, declared.met.MetRuns.MetRuns}
+use Rattle.tc_blocks.specs.{Line.{is_about, is_met}, Met.AreMet, declared.{line.Line.Line, met.MetRuns.MetRuns}}
 
 swap : (a b c : Bool) → (a || (b || c)) ≡ (b || (a || c))
 swap true true c = refl

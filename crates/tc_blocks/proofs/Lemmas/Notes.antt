@@ -1,13 +1,8 @@
 -- The lines of evidence that are no entries, and how they differ from others.
-use Rattle.std.proofs.Common.{ℕ, ◌≡◌, ◌≢◌, ◌∙◌, ◌<◌, ◌≤◌, ◌+◌, ◌^◌, ◌&&◌, Bool, true, false, All, IsTrue, inl, inr, List, [], ◌∷◌, ◌++◌, codes, length, take, get_or, ap, sym, refl, append_assoc, arith}
-use Rattle.std.specs.{Char.is_ascii_digit, Fmt.decimal, List.list_all, Str.all_ascii_digits}
-use Rattle.std.proofs.lemmas.{Bool.Decides.nat_tests, List.Elements.All-head, List.Elements.All-tail, List.take_more}
+use Rattle.std.{proofs.{Common.{ℕ, ◌≡◌, ◌≢◌, ◌∙◌, ◌<◌, ◌≤◌, ◌+◌, ◌^◌, ◌&&◌, Bool, true, false, All, IsTrue, inl, inr, List, [], ◌∷◌, ◌++◌, codes, length, take, get_or, ap, sym, refl, append_assoc, arith}, lemmas.{Bool.Decides.nat_tests, List.{Elements.{All-head, All-tail}, take_more}}}, specs.{Char.is_ascii_digit, Fmt.decimal, List.list_all, Str.all_ascii_digits}}
 use Rattle.tc_rules.specs.Prelude.{Verdict, Run, name_of, IsName, Entry, Op}
-use Rattle.tc_text.specs.Inside.{NoLow}
-use Rattle.tc_text.specs.Prelude.{lines_of, EndsLine, EndsNumber, is_plain, op_text, reply_text}
-use Rattle.tc_text.proofs.Lemmas.{Digits.both, Digits.digit_first, Digits.no_letter, Digits.spelled_digits, LinesOf.first_line, LinesOf.line_ended, LinesOf.same_cut}
-use Rattle.tc_blocks.specs.{HistoryBlock.end_text, HistoryBlock.entry_text, HistoryText.IsEntry, Inside.ArePlain, Inside.NoPlainFirst, Inside.mark_text, Line.line_text, Line.naming_text, Line.said_text, Text.IsLine, declared.header.Kind.Kind, declared.line.Line.Line}
-use Rattle.tc_blocks.proofs.Lemmas.Bytes.{AreAllPlain, naming_quiet, plain_no_lf, quiet_plain, said_plain}
+use Rattle.tc_text.{specs.{Inside.NoLow, Prelude.{lines_of, EndsLine, EndsNumber, is_plain, op_text, reply_text}}, proofs.Lemmas.{Digits.{both, digit_first, no_letter, spelled_digits}, LinesOf.{first_line, line_ended, same_cut}}}
+use Rattle.tc_blocks.{specs.{HistoryBlock.{end_text, entry_text}, HistoryText.IsEntry, Inside.{ArePlain, NoPlainFirst, mark_text}, Line.{line_text, naming_text, said_text}, Text.IsLine, declared.{header.Kind.Kind, line.Line.Line}}, proofs.Lemmas.Bytes.{AreAllPlain, naming_quiet, plain_no_lf, quiet_plain, said_plain}}
 
 pub first_is : (x y : ℕ) (xs ys : List ℕ) → x ∷ xs ≡ y ∷ ys → x ≡ y
 first_is x y xs ys e = cc
@@ -145,10 +140,7 @@ behind_numbers n m xs ys one two e =
 -- an operation begins with a letter
 op_letter : (op : Op) (rest : List ℕ) → (b : ℕ) × ((more : List ℕ) × (op_text op ++ rest ≡ b ∷ more) × (97 ≤ b))
 op_letter (Op.Create alive name) rest = (99, (_, refl, omega arith))
-op_letter (Op.Start c run args) rest = (115, (_, refl, omega arith))
-op_letter (Op.Stop g) rest = (115, (_, refl, omega arith))
 op_letter (Op.Kill g) rest = (107, (_, refl, omega arith))
-op_letter Op.StopCase rest = (115, (_, refl, omega arith))
 op_letter (Op.Running t) rest = (114, (_, refl, omega arith))
 op_letter (Op.Alive t) rest = (97, (_, refl, omega arith))
 op_letter (Op.Done t) rest = (100, (_, refl, omega arith))
@@ -157,9 +149,9 @@ op_letter (Op.Wait false t) rest = (119, (_, refl, omega arith))
 op_letter (Op.Wait true t) rest = (119, (_, refl, omega arith))
 op_letter (Op.Wake false t) rest = (119, (_, refl, omega arith))
 op_letter (Op.Wake true t) rest = (119, (_, refl, omega arith))
-op_letter (Op.SetVerdict v) rest = (115, (_, refl, omega arith))
 op_letter Op.GetVerdict rest = (103, (_, refl, omega arith))
 op_letter Op.Finish rest = (102, (_, refl, omega arith))
+op_letter _ rest = (115, (_, refl, omega arith))
 
 -- the mark is no letter
 mark_low : (refused : Bool) (rest : List ℕ) → (b : ℕ) × ((more : List ℕ) × (mark_text refused ++ rest ≡ 32 ∷ b ∷ more) × (b ≤ 35))

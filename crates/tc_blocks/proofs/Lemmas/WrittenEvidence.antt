@@ -1,10 +1,7 @@
 -- Blocks that are written are read again.
-use Rattle.std.proofs.Common.{ℕ, ◌≡◌, ◌∙◌, List, [], ◌∷◌, ◌++◌, map, refl, ap, sym, append_assoc}
-use Rattle.std.specs.List.{flat_map, AllByRecursion}
-use Rattle.tc_text.specs.Prelude.{lines_of}
-use Rattle.tc_text.proofs.Lemmas.LinesOf.{NoLf, ended_lines, lines-ended_lines}
-use Rattle.tc_blocks.specs.{Block.header_text, Block.with_lf, HistoryBlock.end_text, Line.line_text, Text.AreBlocks, Text.IsHeader, Text.all_lines, Text.block_lines, Written.WrittenIsRead, Written.text_of_block, declared.block.Block.Block, declared.line.Line.Line}
-use Rattle.tc_blocks.proofs.Lemmas.Bytes.{AreAllPlain, blocks_plain, plain_no_lf}
+use Rattle.std.{proofs.Common.{ℕ, ◌≡◌, ◌≢◌, ◌∙◌, List, [], ◌∷◌, ◌++◌, map, refl, ap, sym, append_assoc}, specs.List.{flat_map, AllByRecursion}}
+use Rattle.tc_text.{specs.Prelude.lines_of, proofs.Lemmas.LinesOf.{NoLf, ended_lines, lines-ended_lines}}
+use Rattle.tc_blocks.{specs.{Block.{header_text, with_lf}, HistoryBlock.end_text, Line.line_text, Text.{AreBlocks, AreEvidence, IsHeader, all_lines, block_lines}, Inside.text_of_block, declared.{block.Block.Block, line.Line.Line}}, proofs.Lemmas.Bytes.{AreAllPlain, blocks_plain, plain_no_lf}}
 
 all_no_lf : (ls : List (List ℕ)) → AllByRecursion AreAllPlain ls → AllByRecursion NoLf ls
 all_no_lf [] plain = tt
@@ -40,5 +37,5 @@ pub written_lines : (line : ℕ) (bs : List Block) → AreBlocks IsHeader line b
 written_lines line bs are = ap lines_of (blocks_ended bs) ∙ lines-ended_lines (all_lines bs) (all_no_lf (all_lines bs) (blocks_plain line bs are))
 
 -- the text of blocks is the text of these blocks
-pub written_evidence : WrittenIsRead
+pub written_evidence : (blocks : List Block) → blocks ≢ [] → AreBlocks IsHeader 1 blocks → AreEvidence (flat_map text_of_block blocks) blocks
 written_evidence bs some are = record { some = some; fits = are; lines = written_lines 1 bs are }

@@ -1,8 +1,12 @@
 -- What only the way the words are settled needs: no public clause names a word of this file.
-use Rattle.std.specs.{Prelude.{ℕ, ◌≡◌, ◌<◌, Bool, true, false, Option, Some, List, [], ◌∷◌, length, set}, Option.option_and_then}
+use Rattle.std.specs.{Prelude.{ℕ, ◌≡◌, ◌<◌, Bool, true, false, Option, Some, List, [], ◌∷◌, length, set, None}, Option.{option_and_then, option_map_or}}
 use Rattle.tc_rules.specs.Prelude.{Run, UserVerdict, Comp, Entry, Op, Reply, comp_of, is_active, last_run}
 use Rattle.tc_board.specs.declared.record.Record.{Record, TheVariants.Closed, TheVariants.Open, TheVariants.Unbegun}
-use Rattle.tc_book.specs.Words.{IsWordOf, record_at, carried, is_closed, left_by, run_before}
+use Rattle.tc_book.specs.Words.{IsWordOf, record_at, carried, is_closed, run_before, closing}
+
+-- what the close of this run's word gave: none if there is no run
+abbrev pub left_by : List Record → Option Run → UserVerdict
+left_by words last = option_map_or (λ run. closing (record_at words run.0)) last UserVerdict.None
 
 -- the last run on this component, if there is one
 abbrev pub last_on : List Entry → Option Comp → Option Run

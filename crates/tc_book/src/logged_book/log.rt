@@ -2,7 +2,7 @@
 ghost use Rattle.std.specs.{Prelude.{◌≡◌, ◌<◌, ◌≤◌, ◌+◌, ◌++◌, ◌∷◌, [], true, false, OnErr, OnOk}, Vec.{vec_len, vec_capacity}};
 ghost use Rattle.tc_board.specs.declared.answer.Answer.TheVariants.{Met};
 ghost use Rattle.tc_rules.specs.Prelude.{is_verdict_call};
-ghost use Rattle.tc_book.specs.{Hands.IsHandOf, Inside.is_closed, Inside.with_own, Passes.ended_by, Inside.Replies.suits};
+ghost use Rattle.tc_book.specs.{Hands.IsHandOf, Inside.{is_closed, with_own, ended_by, Replies.suits}};
 
 use crate::logged_book::Started;
 use crate::run_hand::RunHand;
@@ -24,7 +24,7 @@ pub(crate) struct Log {
 
 impl Model for Log {
     ghost use Rattle.std.specs.{Prelude.{◌≡◌, ◌-◌}, Vec.{vec_len, vec_capacity}};
-    ghost use Rattle.tc_book.specs.{Passes.ended_by, Hands.IsHandOf, Inside.LogState};
+    ghost use Rattle.tc_book.specs.{Inside.{ended_by, LogState}, Hands.IsHandOf};
 
     ghost Value = { LogState };
 

@@ -1,16 +1,10 @@
 -- What a campaign leaves with an observer that has room for all its test cases, and one that has no room for them.
-use Rattle.std.proofs.Common.{ℕ, zero, suc, ◌≡◌, ◌≤◌, ◌∷◌, ◌++◌, [], Bool, List, Option, Some, None, length, map, take, arith, inl, inr, refl, sym, subst, ◌∙◌}
-use Rattle.std.specs.Prelude.{◌⊎◌, IfSome, slice_get}
-use Rattle.std.specs.Vec.{vec_capacity}
-use Rattle.std.proofs.lemmas.{List.Elements.All-nil, Slice.Zip.AllZip-long}
-use Rattle.tc_rules.specs.Prelude.{Verdict}
+use Rattle.std.{proofs.{Common.{ℕ, zero, suc, ◌≡◌, ◌≤◌, ◌∷◌, ◌++◌, [], Bool, List, Option, Some, None, length, map, take, arith, inl, inr, refl, sym, subst, ◌∙◌}, lemmas.{List.Elements.All-nil, Slice.Zip.AllZip-long}}, specs.{Prelude.{◌⊎◌, IfSome, slice_get}, Vec.vec_capacity}}
+use Rattle.tc_rules.specs.{Prelude.Verdict, declared.refusal.CaseError.CaseError}
 use Rattle.tc_book.specs.Prelude.{PassState}
-use Rattle.tc_rules.specs.declared.refusal.CaseError.{CaseError}
 use Rattle.tc_exec.specs.declared.{job.Back.Back, test_case.Case.Case}
-use Rattle.tc_report.specs.{Inside.IsEndedAt, declared.kept.Kept.Kept, declared.results.CampaignEnd.CampaignEnd, declared.results.Finished.Finished}
-use Rattle.tc_report.specs.Prelude.{Keeps, AreTaken, IsMet}
-use Rattle.tc_report.proofs.Lemmas.Keeping.{are_kept, never_ended}
-use Rattle.tc_campaign.specs.{Campaign.AreBack, Campaign.AreFinished, Campaign.IsCalled, Campaign.IsCutShort, Campaign.IsEnding, Campaign.IsObserved, Campaign.IsRefusal, Campaign.IsRunTo, Inside.HasBehaviours, Inside.IsUnrun, Outline.Outline, Outline.outline_of}
+use Rattle.tc_report.{specs.{Inside.IsEndedAt, declared.{kept.Kept.Kept, results.{CampaignEnd.CampaignEnd, Finished.Finished}}, Prelude.{Keeps, AreTaken, IsMet}}, proofs.Lemmas.Keeping.{are_kept, never_ended}}
+use Rattle.tc_campaign.specs.{Campaign.{AreBack, AreFinished, IsCalled, IsCutShort, IsEnding, IsObserved, IsRefusal, IsRunTo}, Inside.{HasBehaviours, IsUnrun}, Outline.{Outline, outline_of}}
 
 take_short : {A : Type 0} (n : ℕ) (xs : List A) → length (take n xs) ≤ length xs
 take_short zero xs = omega arith
@@ -53,12 +47,15 @@ module _ {B : Type 0} (outcome : B → PassState → Back → Type 0) (cases : L
     behaviours = All-nil HasBehaviours;
   }
 
+  pub no_more : (finished : List Finished) → AreFinished outline_of (IsCalled outcome) cases stop_on threads finished → length finished ≤ length cases
+  no_more finished each =
+      let same = AllZip-long (IsCalled outcome) (take (length finished) cases) finished each.calls in
+      omega (arith, same, take_short (length finished) cases)
+
   module _ (before after : Kept) (none : before.finished.items ≡ []) (room : length cases ≤ vec_capacity before.finished) (finished : List Finished)
       (each : AreFinished outline_of (IsCalled outcome) cases stop_on threads finished) where
     fits : length finished ≤ vec_capacity before.finished
-    fits =
-        let same = AllZip-long (IsCalled outcome) (take (length finished) cases) finished each.calls in
-        omega (arith, same, take_short (length finished) cases, room)
+    fits = omega (arith, no_more finished each, room)
 
     -- if there is room for all test cases, the finished ones are kept
     pub all_are_kept : AreTaken Keeps finished before after → after.finished.items ≡ finished

@@ -1,14 +1,9 @@
 -- The run of a campaign, case by case.
-use Rattle.std.proofs.Common.{ℕ, ◌≡◌, ◌∙◌, ◌++◌, ◌∷◌, [], Option, Some, None, List, All, map, length, take, arith, refl, sym, subst, append_assoc}
-use Rattle.std.specs.List.{AllZip}
-use Rattle.std.proofs.lemmas.List.Elements.{All-nil, All-push}
+use Rattle.std.{proofs.{Common.{ℕ, ◌≡◌, ◌∙◌, ◌++◌, ◌∷◌, [], Option, Some, None, List, All, map, length, take, arith, refl, sym, subst, append_assoc}, lemmas.List.Elements.{All-nil, All-push}}, specs.List.AllZip}
 use Rattle.tc_rules.specs.Prelude.{Verdict}
-use Rattle.tc_report.specs.declared.results.{CampaignEnd.CampaignEnd, Finished.Finished}
-use Rattle.tc_report.specs.Prelude.{IsMet}
-use Rattle.tc_exec.specs.Inside.{AreDone}
-use Rattle.tc_exec.proofs.Lemmas.Taking.{AllZip-pushed}
-use Rattle.tc_campaign.specs.{Inside.HasThreads, Inside.IsAbortedAt, Inside.IsBetter, Inside.IsOf, Inside.IsRun, Inside.IsRun.aborted, Inside.IsRun.complete, Inside.IsRun.cut, Inside.IsRun.stopped, Inside.IsSoFar, Outline.Outline}
-use Rattle.tc_campaign.proofs.Places.{AllZip-begin}
+use Rattle.tc_report.specs.{declared.results.{CampaignEnd.CampaignEnd, Finished.Finished}, Prelude.IsMet}
+use Rattle.tc_exec.{specs.Inside.AreDone, proofs.Lemmas.Taking.AllZip-pushed}
+use Rattle.tc_campaign.{specs.{Inside.{HasThreads, IsAbortedAt, IsBetter, IsOf, IsRun, IsRun.{aborted, complete, cut, stopped}, IsSoFar}, Outline.Outline}, proofs.Places.AllZip-begin}
 
 pub done_begin : {A B : Type 0} (R : A → B → Type 0) (all left : List A) (ys : List B) → AreDone R all left ys → AllZip R (take (length ys) all) ys
 done_begin R all left ys are = AllZip-begin R all are.done left ys are.prefix are.each

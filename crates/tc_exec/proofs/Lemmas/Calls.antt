@@ -1,13 +1,8 @@
 -- What workers left, one after another.
-use Rattle.std.proofs.Common.{ℕ, zero, suc, ◌≡◌, ◌≢◌, ◌<◌, ◌+◌, ◌==◌, ◌||◌, inl, inr, Bool, true, false, Some, None, Result, Ok, Err, IfOk, List, [], ◌∷◌, ◌++◌, length, get_or, map, reverse, refl, sym, ap, subst, ◌∙◌, arith}
-use Rattle.std.proofs.lemmas.{Bool.Decides.nat_tests, List.Elements.All-get_or, List.append-nil}
-use Rattle.tc_rules.specs.Prelude.{Entry, comp_of, Run, Reply, is_ended, is_fault, is_ok, Op}
-use Rattle.tc_rules.specs.declared.{closed.Closed.Closed, refusal.CaseError.CaseError, refusal.CaseError.TheVariants.NoMemory, refusal.CaseError.TheVariants.Torn}
-use Rattle.tc_book.specs.Prelude.{IsFitting, IsOneEach, IsWhole, start_of, PassState, LeftState, has_ended, with_own_entry}
-use Rattle.tc_book.specs.Inside.{comp_by}
-use Rattle.tc_book.proofs.Lemmas.PartOf.{comp_is}
-use Rattle.tc_exec.specs.{Case.AreCalled, Case.IsHandedBack, Case.IsMadeOf, Case.IsOutOfMemory, Inside.AreLeftBy, Inside.Gathers, Inside.HasStarved, Inside.IsOneStarved, Inside.is_starved, Workers.IsLeftBy, Workers.IsWorked, Workers.WasCalled, Workers.WasCalledFor, Workers.opening_pass, Workers.HasLeft}
-use Rattle.tc_exec.specs.declared.{gathered.Gathered.Gathered, handed.Handed.Handed, job.Back.Back, job.Ending.Ending}
+use Rattle.std.proofs.{Common.{ℕ, zero, suc, ◌≡◌, ◌≢◌, ◌<◌, ◌+◌, ◌==◌, ◌||◌, inl, inr, Bool, true, false, Some, None, Result, Ok, Err, IfOk, List, [], ◌∷◌, ◌++◌, length, get_or, map, reverse, refl, sym, ap, subst, ◌∙◌, arith}, lemmas.{Bool.Decides.nat_tests, List.{Elements.All-get_or, append-nil}}}
+use Rattle.tc_rules.specs.{Prelude.{Entry, comp_of, Run, Reply, is_ended, is_fault, is_ok, Op}, declared.{closed.Closed.Closed, refusal.CaseError.{CaseError, TheVariants.{NoMemory, Torn}}}}
+use Rattle.tc_book.{specs.{Prelude.{IsFitting, IsOneEach, IsWhole, start_of, PassState, LeftState, has_ended, with_own_entry}, Inside.comp_by}, proofs.Lemmas.PartOf.comp_is}
+use Rattle.tc_exec.specs.{Case.{AreCalled, IsHandedBack, IsMadeOf, IsOutOfMemory}, Inside.{AreLeftBy, Gathers, HasActed, HasStarved, IsOneStarved, IsWorked, is_starved}, Workers.{IsLeftBy, WasCalled, opening_pass, HasLeft}, declared.{gathered.Gathered.Gathered, handed.Handed.Handed, job.{Back.Back, Ending.Ending}}}
 
 -- memory ran out neither before nor now
 pub neither : (before now after : Bool) → after ≡ (before || now) → after ≡ false → (before ≡ false) × (now ≡ false)
@@ -32,16 +27,11 @@ first_kept d old (n ∷ now) after x was is some = rw is (omega arith, (was some
 module _ {B : Type 0} (outcome : B → PassState → Back → Type 0) where
   -- what a worker handed back whose behaviour did not run out of memory
   pub left_by : (run : Run) (b : B) (h : Handed) → is_starved h.ending ≡ false → IsWorked run (outcome b) h → IsLeftBy outcome run b h.left
-  left_by run b h none (inl unstarted) = inl (ap (λ m. let x : Handed = record { left = m.left; ending = Ending.Returned } in x) unstarted)
-  left_by run b h none (inr w) =
-      let called = w.called in
-      inr (record {
-        pass = w.pass;
-        own = w.own;
-        new = w.new;
-        main = w.main;
-        called = record { back = called.back; outcome_of = called.outcome_of; left = called.left; ending = sym (came_back h.ending none) ∙ called.ending };
-      })
+  left_by run b h none (inl unstarted) = inl (ap (λ m. m.left) unstarted)
+  left_by run b h none (inr w) = inr (
+    record { given = w.pass; handed = w.called.back; own = w.own; new = w.new; main = w.main; outcome_of = w.called.outcome_of; left = w.called.left },
+    sym w.called.ending ∙ came_back h.ending none,
+  )
 
   pushed : (runs : List Run) (bs : List B) (ls : List LeftState) (run : Run) (b : B) (l : LeftState) →
       AreLeftBy outcome runs bs ls → IsLeftBy outcome run b l → AreLeftBy outcome (runs ++ run ∷ []) (bs ++ b ∷ []) (ls ++ l ∷ [])
@@ -60,8 +50,11 @@ module _ {B : Type 0} (outcome : B → PassState → Back → Type 0) where
   -- what a worker handed back whose behaviour ran out of memory
   starved_by : (run : Run) (b : B) (h : Handed) → is_starved h.ending ≡ true → IsWorked run (outcome b) h → HasStarved outcome run b
   starved_by run b h some (inl unstarted) = let bad : false ≡ true = sym (ap (λ m. is_starved m.ending) unstarted) ∙ some in absurd cc
-  starved_by run b h some (inr w) =
-      record { pass = w.pass; own = w.own; new = w.new; main = w.main; called = (w.called.back, (w.called.outcome_of, sym w.called.ending ∙ ran_out h.ending some)) }
+  starved_by run b h some (inr w) = (
+    h.left,
+    record { given = w.pass; handed = w.called.back; own = w.own; new = w.new; main = w.main; outcome_of = w.called.outcome_of; left = w.called.left },
+    sym w.called.ending ∙ ran_out h.ending some,
+  )
 
   -- with one more, the one that ran out of memory is among them still
   one_stays : (runs : List Run) (bs : List B) (run : Run) (b : B) → IsOneStarved outcome runs bs → IsOneStarved outcome (runs ++ run ∷ []) (bs ++ b ∷ [])
@@ -141,21 +134,19 @@ module _ {B : Type 0} (outcome : B → PassState → Back → Type 0) where
 
   -- a started run above 0 was not left unstarted
   of_one : (history : List Entry) (run : Run) (b : B) (l : LeftState) → IsLeftBy outcome run b l → 0 < run.0 → IsFitting history l → comp_of (reverse history) run.0 ≢ None →
-      WasCalledFor run (outcome b)
-  of_one history run b l (inr w) above fits started =
-      record { pass = w.pass; own = w.own; new = w.new; main = w.main; called = (w.called.back, w.called.outcome_of) }
+      (m : LeftState) × WasCalled (outcome b) run m
+  of_one history run b l (inr w) above fits started = (l, w.0)
   of_one history run b l (inl e) above fits started =
-      let left : l ≡ record { run = run; log = []; started = None } = ap (λ h. h.left) e in
-      let own : l.run ≡ run = ap (λ m. m.run) left in
-      let none : l.started ≡ None = ap (λ m. m.started) left in
+      let own : l.run ≡ run = ap (λ m. m.run) e in
+      let none : l.started ≡ None = ap (λ m. m.started) e in
       let known : l.started ≡ start_of (reverse history) l.run.0 = fits.started (rw own above) in
       let start : start_of (reverse history) run.0 ≡ None = rw (← own) (sym known ∙ none) in
       absurd (started (comp_is (reverse history) run.0 ∙ (rw start (unstarted_comp run.0 above))))
 
   -- the main behaviour was not left unstarted
-  of_main : (b : B) (l : LeftState) → IsLeftBy outcome (record { 0 = 0 }) b l → l.started ≢ None → WasCalledFor (record { 0 = 0 }) (outcome b)
-  of_main b l (inr w) some = record { pass = w.pass; own = w.own; new = w.new; main = w.main; called = (w.called.back, w.called.outcome_of) }
-  of_main b l (inl e) some = absurd (some (ap (λ h. h.left.started) e))
+  of_main : (b : B) (l : LeftState) → IsLeftBy outcome (record { 0 = 0 }) b l → l.started ≢ None → (m : LeftState) × WasCalled (outcome b) (record { 0 = 0 }) m
+  of_main b l (inr w) some = (l, w.0)
+  of_main b l (inl e) some = absurd (some (ap (λ m. m.started) e))
 
   pub all_called : (c : Closed) (bs : List B) → IsMadeOf outcome bs c → AreCalled outcome bs c
   all_called c bs made = λ k b below started. by k b below started
@@ -163,7 +154,7 @@ module _ {B : Type 0} (outcome : B → PassState → Back → Type 0) where
       nothing : LeftState
       nothing = record { run = record { 0 = 0 }; log = []; started = None }
 
-      by : (k : ℕ) (b : B) → k < length bs → comp_of (reverse c.history) k ≢ None → WasCalledFor (record { 0 = k }) (outcome (get_or bs k b))
+      by : (k : ℕ) (b : B) → k < length bs → comp_of (reverse c.history) k ≢ None → (m : LeftState) × WasCalled (outcome (get_or bs k b)) (record { 0 = k }) m
       by zero b below started = of_main (get_or bs 0 b) (get_or made.handed.lefts 0 nothing) (made.handed.left 0 b nothing below) (made.handed.main nothing)
       by (suc k) b below started =
           let above : 0 < suc k = omega arith in
@@ -171,7 +162,7 @@ module _ {B : Type 0} (outcome : B → PassState → Back → Type 0) where
           (All-get_or (IsFitting c.history) made.handed.lefts (suc k) nothing (omega (arith, below, made.handed.as_many)) made.whole.fitting) started
 
   -- what the main behaviour left, as the first of all
-  pub main_left : (p : PassState) (b : B) (h : Handed) (before after : Gathered) → p ≡ opening_pass → WasCalled (outcome b p) h →
+  pub main_left : (p : PassState) (b : B) (h : Handed) (before after : Gathered) → p ≡ opening_pass → HasActed (outcome b p) h →
       before.lefts.items ≡ [] → before.starved ≡ false →
       after.lefts.items ≡ before.lefts.items ++ h.left ∷ [] → after.starved ≡ (before.starved || is_starved h.ending) →
       Gathers outcome (record { 0 = 0 } ∷ []) (b ∷ []) after
@@ -188,7 +179,7 @@ module _ {B : Type 0} (outcome : B → PassState → Back → Type 0) where
   numbered runs h (suc k) run below = h k run (omega arith) ∙ omega arith
 
   -- what the main behaviour left is not that of a run that was never started
-  pub main_started : (p : PassState) (b : B) (h : Handed) → WasCalled (outcome b p) h → (ls taken : List LeftState) (l : LeftState) → taken ≡ h.left ∷ [] →
+  pub main_started : (p : PassState) (b : B) (h : Handed) → HasActed (outcome b p) h → (ls taken : List LeftState) (l : LeftState) → taken ≡ h.left ∷ [] →
       (0 < length taken → get_or ls 0 l ≡ get_or taken 0 l) → (get_or ls 0 l).started ≢ None
   main_started p b h called ls taken l is first started =
       let found : get_or ls 0 l ≡ h.left = first (rw is (omega arith)) ∙ (rw is refl) in

@@ -1,12 +1,8 @@
 -- The logs of a report are those of the behaviours' passes.
-use Rattle.std.proofs.Common.{ℕ, zero, suc, ◌≡◌, ◌≢◌, ◌∙◌, ◌<◌, ◌≤◌, inl, inr, Option, Some, None, List, [], All, length, get_or, reverse, refl, sym, ap, subst, arith}
-use Rattle.std.proofs.lemmas.List.Elements.{All-append, All-cons, All-nil, All-get_or}
-use Rattle.tc_rules.specs.Prelude.{Run, Comp, Entry, comp_of, part, log_if, logs_below, IsOneHistory}
-use Rattle.tc_rules.specs.declared.closed.Closed.{Closed}
-use Rattle.tc_book.specs.Prelude.{IsFitting, PassState, LeftState, start_of}
-use Rattle.tc_book.proofs.Lemmas.PartOf.{comp_is}
-use Rattle.tc_exec.specs.{Case.IsMadeOf, Case.AreLogsBy, Case.IsLogBy, Workers.IsLeftBy, declared.job.Back.Back}
-use Rattle.tc_exec.proofs.Lemmas.Calls.{unstarted_comp}
+use Rattle.std.proofs.{Common.{ℕ, zero, suc, ◌≡◌, ◌≢◌, ◌∙◌, ◌<◌, ◌≤◌, inl, inr, Option, Some, None, List, [], All, length, get_or, reverse, refl, sym, ap, subst, arith}, lemmas.List.Elements.{All-append, All-cons, All-nil, All-get_or}}
+use Rattle.tc_rules.specs.{Prelude.{Run, Comp, Entry, comp_of, part, log_if, logs_below, IsOneHistory}, declared.closed.Closed.Closed}
+use Rattle.tc_book.{specs.Prelude.{IsFitting, PassState, LeftState, start_of}, proofs.Lemmas.PartOf.comp_is}
+use Rattle.tc_exec.{specs.{Case.{IsMadeOf, AreLogsBy, IsLogBy}, Workers.IsLeftBy, declared.job.Back.Back}, proofs.Lemmas.Calls.unstarted_comp}
 
 module _ {B : Type 0} (outcome : B → PassState → Back → Type 0) (own : (b : B) (p : PassState) (k : Back) → outcome b p k → k.pass.run ≡ p.run) where
   -- the log of a run on a component, by what the run left
@@ -14,12 +10,11 @@ module _ {B : Type 0} (outcome : B → PassState → Back → Type 0) (own : (b 
       (run.0 ≡ 0 → l.started ≢ None) → comp_of (reverse history) run.0 ≡ Some c →
       IsLogBy (outcome b) history (record { run = run; comp = c; entries = part history run.0 })
   of_left history run b l c (inr w) fits main on =
-      let same : l.run ≡ run = w.called.left.run ∙ own b w.pass w.called.back w.called.outcome_of ∙ w.own in
-      record { left = l; made = w; entries = sym (fits.part ∙ ap (λ r. part history r.0) same); started = λ above. fits.started (rw same above) ∙ ap (λ r. start_of (reverse history) r.0) same }
+      let same : l.run ≡ run = w.0.left.run ∙ own b w.0.given w.0.handed w.0.outcome_of ∙ w.0.own in
+      record { left = l; called = w.0; returned = w.1; entries = sym (fits.part ∙ ap (λ r. part history r.0) same); started = λ above. fits.started (rw same above) ∙ ap (λ r. start_of (reverse history) r.0) same }
   of_left history run b l c (inl e) fits main on =
-      let left : l ≡ record { run = run; log = []; started = None } = ap (λ h. h.left) e in
-      let same : l.run ≡ run = ap (λ m. m.run) left in
-      let none : l.started ≡ None = ap (λ m. m.started) left in
+      let same : l.run ≡ run = ap (λ m. m.run) e in
+      let none : l.started ≡ None = ap (λ m. m.started) e in
       absurd (unstarted run.0 refl same none)
     where
       unstarted : (k : ℕ) → run.0 ≡ k → l.run ≡ run → l.started ≡ None → ⊥

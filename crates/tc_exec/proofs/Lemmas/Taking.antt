@@ -1,6 +1,5 @@
 -- Lists that are taken one after the other.
-use Rattle.std.proofs.Common.{◌≡◌, ◌∙◌, ◌++◌, ◌∷◌, [], List, sym, subst, append_assoc}
-use Rattle.std.specs.List.{AllZip}
+use Rattle.std.{proofs.Common.{◌≡◌, ◌∙◌, ◌++◌, ◌∷◌, [], List, sym, subst, append_assoc}, specs.List.AllZip}
 use Rattle.tc_exec.specs.Inside.{AreDone}
 
 -- two lists that agree, with one more element each that agree

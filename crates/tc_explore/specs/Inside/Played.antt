@@ -1,8 +1,8 @@
 -- The course in which these runs, one after the other, make their next calls.
 use Rattle.std.specs.Prelude.{ℕ, nat_lt, if◌then◌else◌, Option, Some, None, List, [], ◌∷◌, length, reverse}
-use Rattle.tc_rules.specs.Prelude.{Case, Entry, Op, Run}
+use Rattle.tc_rules.specs.Prelude.{Case, Entry, Op, Run, entry_made}
 use Rattle.tc_step.specs.Prelude.{ScriptView}
-use Rattle.tc_course.specs.Prelude.{entry_made, turn}
+use Rattle.tc_course.specs.Prelude.{turn}
 
 -- what run b calls next, if there is such a run
 abbrev pub turn_within : List ScriptView → List Entry → ℕ → Option Op

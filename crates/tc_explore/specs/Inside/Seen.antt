@@ -1,10 +1,9 @@
 -- The states that a search has seen.
 use Rattle.std.specs.Prelude.{ℕ, ◌⊎◌, List, ◌∷◌, ◌≡◌, true, false, ◌<◌, length, slice_index_or, ◌≤◌, ◌&&◌, nat_le, ◌-◌, if◌then◌else◌, Bool, Option, None, Some, [], ◌++◌, map, slice_get, All}
-use Rattle.tc_rules.specs.Prelude.{Entry, local_if_any, is_active, Run, Verdict, level_of, Op, is_fault, Case, past_of, is_over, overall, answer}
+use Rattle.tc_rules.specs.Prelude.{Entry, local_if_any, is_active, Run, Verdict, level_of, Op, is_fault, Case, past_of, is_over, overall, answer, entry_made}
 use Rattle.tc_step.specs.Prelude.{ScriptView}
-use Rattle.tc_course.specs.declared.witness.Witness.{Witness}
-use Rattle.tc_course.specs.Prelude.{carried_on, IsTurn, IsCourse, CannotGo, AreWitnesses, AllFound, IsWitness, is_found, stand, goes_on, entry_made, IsOn}
-use Rattle.tc_explore.specs.{Found.AreAllMet, Found.AreCovered, Found.AreReached, Found.Covers, Inside.Simulation.IsAlike, Inside.Simulation.IsClosed, Inside.Simulation.IsClosedFor, Inside.Simulation.IsCovered, Inside.Simulation.IsFor, Inside.Simulation.IsWithin, Inside.Simulation.is_silent, Inside.Simulation.is_spent, Inside.Twins.key_of, declared.findings.Findings.Findings, declared.search.Extent.Extent, declared.search.Met.Met}
+use Rattle.tc_course.specs.{declared.witness.Witness.Witness, Prelude.{carried_on, IsTurn, IsCourse, CannotGo, AreWitnesses, AllFound, IsWitness, is_found, stand, goes_on, IsOn}}
+use Rattle.tc_explore.specs.{Found.{AreAllMet, AreCovered, AreReached, Covers}, Inside.{Simulation.{IsAlike, IsClosed, IsClosedFor, IsCovered, IsFor, IsWithin, is_silent, is_spent}, Twins.{AreKeyed, key_of}}, declared.{findings.Findings.Findings, search.{Extent.Extent, Met.Met}}}
 
 -- the next call of run b is made, if it can continue
 abbrev pub IsStepped : List ScriptView → List Entry → List Entry → ℕ → Type 0
@@ -83,15 +82,11 @@ pub record IsState (aim : Verdict) (scripts : List ScriptView) (t : Case) : Type
 abbrev pub IsFull : Met → Type 0
 IsFull met = met.limit ≤ length met.states.items
 
--- its keys are those of its states
-abbrev pub AreKeyed : List ScriptView → Met → Type 0
-AreKeyed scripts met = map (λ k. k.items) met.keys.keys ≡ map (λ t. key_of (length scripts) (past_of t)) met.states.items
-
 -- the states that a search has met: at most its limit, and each run's calls in them are counted
 pub record AreKept (aim : Verdict) (scripts : List ScriptView) (met : Met) (found : Findings) : Type 0 where
   pub few : length met.states.items ≤ met.limit
   pub each : All (λ t. IsState aim scripts t) met.states.items
-  pub keyed : AreKeyed scripts met
+  pub keyed : AreKeyed (key_of (length scripts)) met
   pub counted : All (λ t. Covers found.reached.items (past_of t)) met.states.items
 
 -- a case of as many behaviours and of the same entries

@@ -3,8 +3,7 @@
 use Rattle.std.specs.Prelude.{ℕ, suc, ◌≡◌, ◌==◌, ◌<◌, ◌≤◌, ◌-◌, ◌⊎◌, ◌&&◌, ◌||◌, not, nat_le, nat_lt, Bool, true, false, Option, Some, None, List, ◌∷◌, MatchOption, length, slice_get}
 use Rattle.tc_rules.specs.Prelude.{Run, Verdict, level_of, given, Comp, Entry, Op, Target, Phase, is_fault, comps, comp_of, is_alive_type, is_over, is_comp, phase, phase_if_any, overall, fault, is_active, Group}
 use Rattle.tc_step.specs.Prelude.{ScriptView}
-use Rattle.tc_course.specs.{Inside.call_of, declared.witness.Witness.Witness}
-use Rattle.tc_course.specs.Prelude.{CourseState, stand, goes_on, steps_of, turn, IsTurn, IsCourse, is_found}
+use Rattle.tc_course.specs.{Inside.call_of, declared.witness.Witness.Witness, Prelude.{CourseState, stand, goes_on, steps_of, turn, IsTurn, IsCourse, is_found}}
 
 -- the same components in the same phases, the same runs on them
 pub record IsAlike (p q : List Entry) : Type 0 where

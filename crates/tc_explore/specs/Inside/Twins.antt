@@ -1,6 +1,5 @@
 -- Courses of which the same is known, local verdicts and waits included, and what a search for local verdicts keeps.
-use Rattle.std.specs.Prelude.{ℕ, ◌+◌, ◌∷◌, ◌++◌, if◌then◌else◌, Bool, true, false, Option, Some, None, List, [], length, map, ◌≡◌, ◌==◌, ◌<◌, ◌≤◌, All, slice_get, slice_index_or}
-use Rattle.std.specs.List.{flat_map, range_with_len}
+use Rattle.std.specs.{Prelude.{ℕ, ◌+◌, ◌∷◌, ◌++◌, if◌then◌else◌, Bool, true, false, Option, Some, None, List, [], length, map, ◌≡◌, ◌==◌, ◌<◌, ◌≤◌, All, slice_get, slice_index_or}, List.{flat_map, range_with_len}}
 use Rattle.tc_rules.specs.Prelude.{level_of, Comp, Entry, Phase, is_alive_type, phase_if_any, overall, components, is_active, Verdict, Op, Target, Case, past_of, is_over, local, local_if_any}
 use Rattle.tc_course.specs.Prelude.{CourseState, stand, IsTurn, IsOn, is_local}
 use Rattle.tc_step.specs.Prelude.{ScriptView}
@@ -88,14 +87,18 @@ pub record IsGoing (scripts : List ScriptView) (t : Case) : Type 0 where
   pub going : is_over (past_of t) ≡ false
 
 -- its keys are those of its states
-abbrev pub HasTwinKeys : List ScriptView → Met → Type 0
-HasTwinKeys scripts met = map (λ k. k.items) met.keys.keys ≡ map (λ t. twin_key (length scripts) (past_of t)) met.states.items
+abbrev pub AreKeyed : (List Entry → List ℕ) → Met → Type 0
+AreKeyed of met = map (λ k. k.items) met.keys.keys ≡ map (λ t. of (past_of t)) met.states.items
+
+-- one of these states has the key of this course
+abbrev pub IsKnown : (List Entry → List ℕ) → List Case → List Entry → Type 0
+IsKnown of states r = (i : ℕ) × (t : Case) × (slice_get states i ≡ Some t) × (of r ≡ of (past_of t))
 
 -- the states that a search has met, at most its limit
 pub record AreGoing (scripts : List ScriptView) (met : Met) : Type 0 where
   pub few : length met.states.items ≤ met.limit
   pub each : All (IsGoing scripts) met.states.items
-  pub keyed : HasTwinKeys scripts met
+  pub keyed : AreKeyed (twin_key (length scripts)) met
 
 -- what is found stays so
 abbrev pub IsMore : List Bool → List Bool → Type 0

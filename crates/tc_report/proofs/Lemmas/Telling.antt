@@ -1,11 +1,9 @@
 -- What was printed of test cases as they finished, test case by test case.
-use Rattle.std.proofs.Common.{ℕ, ◌≡◌, ◌∙◌, ◌+◌, arith, nat_lt, Bool, true, false, List, [], ◌∷◌, ◌++◌, Option, Some, None, Result, Ok, Err, OnOk, OnErr, codes, filter, if◌then◌else◌, length, refl, sym, ap, subst, append_assoc, map, reverse}
-use Rattle.std.proofs.lemmas.List.{Concat.flat_map-append, Elements.filter-append, append-nil, length-append}
-use Rattle.std.specs.{Io.KnownBytes.Appends, Io.KnownBytes.Keeps, List.AllZip, List.flat_map}
+use Rattle.std.{proofs.{Common.{ℕ, ◌≡◌, ◌∙◌, ◌+◌, arith, Bool, true, false, List, [], ◌∷◌, ◌++◌, Option, Some, None, Result, Ok, Err, OnOk, OnErr, codes, filter, if◌then◌else◌, length, refl, sym, ap, ap₂, subst, append_assoc, map, reverse, take}, lemmas.List.{Concat.flat_map-append, Elements.filter-append, append-nil}}, specs.{Io.KnownBytes.{Appends, Keeps}, List.{AllZip, enumerate_from, flat_map}}}
 use Rattle.tc_stream.specs.Prelude.{AppendsPrefix}
-use Rattle.tc_blocks.specs.declared.history_block.History.{History}
-use Rattle.tc_report.specs.{Cause.cause_of, Inside.IsEndedAt, Inside.IsSoFar, Inside.failed_by, Observers.AreTaken, Progress.HasTold, Progress.AreLinesOf, Progress.IsToldBy, Progress.TellsProgress, Progress.begun_line, Progress.failed_lines, Progress.finished_line, Progress.case_place, Status.verdict_status, Summary.IsBlockOf, Summary.SummariesOfHistories, Summary.block_summary, Summary.case_end, Summary.case_summary, declared.fault.OutFault.OutFault, declared.progress.Progress.Progress, declared.results.CaseEnd.CaseEnd, declared.results.Finished.Finished}
-use Rattle.tc_report.proofs.Writing.{appends_both, prefix_behind, prefix_longer}
+use Rattle.tc_blocks.specs.{Prelude.entries_of, declared.{block.Block.Block, header.Kind.Kind, line.Line.Line}}
+use Rattle.tc_report.{specs.{Inside.{IsEndedAt, IsOneMore, IsSoFar, again_by, namings, said_with}, Observers.{AreTaken, KeepsTimes}, Progress.{HasTold, AreLinesOf, IsToldBy, TellsProgress, after_verdict, again_lines, begun_text, closing_lines, finished_line, finished_text, is_failure, last_line}, Report.tally_of_cases, Blocks.{block_names, name_lines}, Said.{named_in, remarks_from, said_in}, Summary.{IsBlockOf, SummariesOfBlocks, block_summary, said_of, summary_of, written_summary}, declared.{fault.OutFault.OutFault, progress.{Progress.Progress, Shown.Shown}, results.{CaseEnd.CaseEnd, Finished.Finished, Tally.Tally}, naming.Naming.Naming, said.{Remark.Remark, Said.Said}}}, proofs.Writing.{appends_both, prefix_behind, prefix_longer}}
+use Rattle.tc_rules.specs.Prelude.{Entry, is_over, overall}
 
 nothing : (o : Option (List ℕ)) → Appends o o []
 nothing None = tt
@@ -16,60 +14,69 @@ kept None = tt
 kept (Some s) = refl
 
 -- of no test case nothing is printed, and of none if it is not asked for
-pub nothing_of : (tells : Bool) (start : Option (List ℕ)) → IsToldBy tells start start [] (Ok tt)
-nothing_of false start = (refl, kept start)
-nothing_of true start = ([], false, [], refl, nothing start, tt)
+pub nothing_of : (tells : Bool) (shown : Bool × List (List ℕ)) (start : Option (List ℕ)) → IsToldBy tells shown start start [] (Ok tt)
+nothing_of false shown start = (refl, kept start)
+nothing_of true (true, names) start = (false, [], None, refl, nothing start, tt)
+nothing_of true (false, names) start = (false, [], None, refl, nothing start, tt)
 
-pub silent : (tells : Bool) (start : Option (List ℕ)) (fs : List Finished) → tells ≡ false → IsToldBy tells start start fs (Ok tt)
-silent tells start fs is = subst (λ t. IsToldBy t start start fs (Ok tt)) (sym is) (refl, kept start)
+pub silent : (tells : Bool) (shown : Bool × List (List ℕ)) (start : Option (List ℕ)) (fs : List Finished) → tells ≡ false → IsToldBy tells shown start start fs (Ok tt)
+silent tells shown start fs is = subst (λ t. IsToldBy t shown start start fs (Ok tt)) (sym is) (refl, kept start)
 
 -- ---- what is printed, line by line
 
+-- which lines are printed
+abbrev pub lines_of : Shown → Bool × List (List ℕ)
+lines_of s = (s.only, s.names.now)
+
 -- the next one begins
-begins : (names : List (List ℕ)) (at : ℕ) (fs : List Finished) (text : List ℕ) → AreLinesOf names at fs false text
-    → AreLinesOf names at fs true (text ++ begun_line names (at + length fs))
-begins names at [] text is = let same : at + 0 ≡ at = omega arith in ap (λ l. l ++ begun_line names (at + 0)) is ∙ ap (begun_line names) same
-begins names at (f ∷ fs) text (time, rest, is, more) =
-    let last = begun_line names (at + length (f ∷ fs)) in
+begins : (shown : Bool × List (List ℕ)) (at : ℕ) (fs : List Finished) (text : List ℕ) → AreLinesOf shown at fs false text
+    → AreLinesOf shown at fs true (text ++ begun_text shown (at + length fs))
+begins shown at [] text is = let same : at + 0 ≡ at = omega arith in ap (λ l. l ++ begun_text shown (at + 0)) is ∙ ap (begun_text shown) same
+begins shown at (f ∷ fs) text (time, rest, is, more) =
+    let last = begun_text shown (at + length (f ∷ fs)) in
     let same : (at + 1) + length fs ≡ at + length (f ∷ fs) = omega arith in (
       time,
       rest ++ last,
-      ap (λ l. l ++ last) is ∙ append_assoc (begun_line names at) (finished_line (case_place names at) time f ++ rest) last
-          ∙ ap (λ l. begun_line names at ++ l) (append_assoc (finished_line (case_place names at) time f) rest last),
-      subst (λ n. AreLinesOf names (at + 1) fs true (rest ++ begun_line names n)) same (begins names (at + 1) fs rest more),
+      ap (λ l. l ++ last) is ∙ append_assoc (begun_text shown at) (finished_text shown at time f ++ rest) last
+          ∙ ap (λ l. begun_text shown at ++ l) (append_assoc (finished_text shown at time f) rest last),
+      subst (λ n. AreLinesOf shown (at + 1) fs true (rest ++ begun_text shown n)) same (begins shown (at + 1) fs rest more),
     )
 
 -- and finishes
-finishes : (names : List (List ℕ)) (at : ℕ) (fs : List Finished) (f : Finished) (t : Option (ℕ × ℕ)) (text : List ℕ) → AreLinesOf names at fs true text
-    → AreLinesOf names at (fs ++ f ∷ []) false (text ++ finished_line (case_place names (at + length fs)) t f)
-finishes names at [] f t text is =
+finishes : (shown : Bool × List (List ℕ)) (at : ℕ) (fs : List Finished) (f : Finished) (t : Option (ℕ × ℕ)) (text : List ℕ) → AreLinesOf shown at fs true text
+    → AreLinesOf shown at (fs ++ f ∷ []) false (text ++ finished_text shown (at + length fs) t f)
+finishes shown at [] f t text is =
     let same : at + 0 ≡ at = omega arith in
-    let line = finished_line (case_place names at) t f in (
+    let line = finished_text shown at t f in (
       t,
       [],
-      ap (λ n. text ++ finished_line (case_place names n) t f) same ∙ ap (λ l. l ++ line) is ∙ ap (λ l. begun_line names at ++ l) (sym (append-nil line)),
+      ap (λ n. text ++ finished_text shown n t f) same ∙ ap (λ l. l ++ line) is ∙ ap (λ l. begun_text shown at ++ l) (sym (append-nil line)),
       refl,
     )
-finishes names at (g ∷ fs) f t text (time, rest, is, more) =
-    let last = finished_line (case_place names (at + length (g ∷ fs))) t f in
+finishes shown at (g ∷ fs) f t text (time, rest, is, more) =
+    let last = finished_text shown (at + length (g ∷ fs)) t f in
     let same : (at + 1) + length fs ≡ at + length (g ∷ fs) = omega arith in (
       time,
       rest ++ last,
-      ap (λ l. l ++ last) is ∙ append_assoc (begun_line names at) (finished_line (case_place names at) time g ++ rest) last
-          ∙ ap (λ l. begun_line names at ++ l) (append_assoc (finished_line (case_place names at) time g) rest last),
-      subst (λ n. AreLinesOf names (at + 1) (fs ++ f ∷ []) false (rest ++ finished_line (case_place names n) t f)) same (finishes names (at + 1) fs f t rest more),
+      ap (λ l. l ++ last) is ∙ append_assoc (begun_text shown at) (finished_text shown at time g ++ rest) last
+          ∙ ap (λ l. begun_text shown at ++ l) (append_assoc (finished_text shown at time g) rest last),
+      subst (λ n. AreLinesOf shown (at + 1) (fs ++ f ∷ []) false (rest ++ finished_text shown n t f)) same (finishes shown (at + 1) fs f t rest more),
     )
 
 -- the lines of those that have failed, one more
-failed_more : (fs : List Finished) (f : Finished) → failed_lines (fs ++ f ∷ []) ≡ failed_lines fs ++ failed_lines (f ∷ [])
+failed_more : (fs : List Finished) (f : Finished) → again_lines false (fs ++ f ∷ []) ≡ again_lines false fs ++ again_lines false (f ∷ [])
 failed_more fs f =
-    let p : Finished → Bool = λ f. nat_lt 0 (verdict_status f.report.verdict) in
-    ap (flat_map (finished_line (codes "failed:") None)) (filter-append p fs (f ∷ []))
-    ∙ flat_map-append (finished_line (codes "failed:") None) (filter p fs) (filter p (f ∷ []))
+    ap (flat_map (finished_line (codes "failed:") None)) (filter-append is_failure fs (f ∷ []))
+    ∙ flat_map-append (finished_line (codes "failed:") None) (filter is_failure fs) (filter is_failure (f ∷ []))
+
+again_more : (only : Bool) (fs : List Finished) (f : Finished) → again_lines only (fs ++ f ∷ []) ≡ again_lines only fs ++ again_lines only (f ∷ [])
+again_more true fs f = refl
+again_more false fs f = failed_more fs f
 
 -- of one, it is the line that names it again
-pub failed_one : (f : Finished) → failed_by (cause_of (CaseEnd.Over f.report.verdict) f.report.history) f ≡ failed_lines (f ∷ [])
-failed_one f = go (nat_lt 0 (verdict_status f.report.verdict))
+pub again_one : (only : Bool) (f : Finished) → again_by only (after_verdict f) f ≡ again_lines only (f ∷ [])
+again_one true f = refl
+again_one false f = go (is_failure f)
   where
     line : List ℕ
     line = finished_line (codes "failed:") None f
@@ -78,112 +85,119 @@ failed_one f = go (nat_lt 0 (verdict_status f.report.verdict))
     go true = sym (append-nil line)
     go false = refl
 
+none_again : (only : Bool) → [] ≡ again_lines only []
+none_again true = refl
+none_again false = refl
+
 -- of no test case nothing is printed
-pub so_new : (names : List (List ℕ)) (start : Option (List ℕ)) (again : List ℕ) → again ≡ [] → IsSoFar names start [] start again None 0 false
-so_new names start again none = (false, [], refl, (refl, refl, nothing start, none))
+pub so_new : (shown : Bool × List (List ℕ)) (start : Option (List ℕ)) (again : List ℕ) → again ≡ [] → IsSoFar shown start [] start again None (tally_of_cases []) false
+so_new shown start again none = (false, [], refl, (refl, refl, nothing start, none ∙ none_again shown.0))
 
 -- what is the same
-pub moved : (names names' : List (List ℕ)) (start : Option (List ℕ)) (fs : List Finished) (now : Option (List ℕ)) (again again' : List ℕ) (w w' : Option OutFault) (told told' : ℕ) (x x' : Bool)
-    → names' ≡ names → again' ≡ again → w' ≡ w → told' ≡ told → x' ≡ x → IsSoFar names start fs now again w told x → IsSoFar names' start fs now again' w' told' x'
-moved names names' start fs now again again' w w' told told' x x' a b c d e so =
-    subst (λ n. IsSoFar n start fs now again' w' told' x') (sym a) (subst (λ l. IsSoFar names start fs now l w' told' x') (sym b)
-    (subst (λ v. IsSoFar names start fs now again v told' x') (sym c) (subst (λ n. IsSoFar names start fs now again w n x') (sym d)
-    (subst (λ y. IsSoFar names start fs now again w told y) (sym e) so))))
+pub moved : (shown shown' : Bool × List (List ℕ)) (start : Option (List ℕ)) (fs : List Finished) (now : Option (List ℕ)) (again again' : List ℕ) (w w' : Option OutFault) (tally tally' : Tally) (x x' : Bool)
+    → shown' ≡ shown → again' ≡ again → w' ≡ w → tally' ≡ tally → x' ≡ x → IsSoFar shown start fs now again w tally x → IsSoFar shown' start fs now again' w' tally' x'
+moved shown shown' start fs now again again' w w' tally tally' x x' a b c d e so =
+    subst (λ n. IsSoFar n start fs now again' w' tally' x') (sym a) (subst (λ l. IsSoFar shown start fs now l w' tally' x') (sym b)
+    (subst (λ v. IsSoFar shown start fs now again v tally' x') (sym c) (subst (λ n. IsSoFar shown start fs now again w n x') (sym d)
+    (subst (λ y. IsSoFar shown start fs now again w tally y) (sym e) so))))
 
 -- a line was not printed whole
-abbrev pub IsCut : List (List ℕ) → Option (List ℕ) → List Finished → Option (List ℕ) → Type 0
-IsCut names start fs now = (begun : Bool) × (text : List ℕ) × AreLinesOf names 0 fs begun text × AppendsPrefix start now text
+abbrev pub IsCut : Bool × List (List ℕ) → Option (List ℕ) → List Finished → Option (List ℕ) → Type 0
+IsCut shown start fs now = (begun : Bool) × (text : List ℕ) × AreLinesOf shown 0 fs begun text × AppendsPrefix start now text
 
-module _ (names : List (List ℕ)) (start : Option (List ℕ)) (fs : List Finished) (now : Option (List ℕ)) (again : List ℕ) (w : Option OutFault) (told : ℕ) (x : Bool) (fault : OutFault) (is : w ≡ Some fault) where
-  pub cut_of : IsSoFar names start fs now again w told x → IsCut names start fs now
-  cut_of so = subst (λ v. IsSoFar names start fs now again v told x) is so
+module _ (shown : Bool × List (List ℕ)) (start : Option (List ℕ)) (fs : List Finished) (now : Option (List ℕ)) (again : List ℕ) (w : Option OutFault) (tally : Tally) (x : Bool) (fault : OutFault) (is : w ≡ Some fault) where
+  pub cut_of : IsSoFar shown start fs now again w tally x → IsCut shown start fs now
+  cut_of so = subst (λ v. IsSoFar shown start fs now again v tally x) is so
 
-  pub so_of : IsCut names start fs now → IsSoFar names start fs now again w told x
-  so_of cut = subst (λ v. IsSoFar names start fs now again v told x) (sym is) cut
+  pub so_of : IsCut shown start fs now → IsSoFar shown start fs now again w tally x
+  so_of cut = subst (λ v. IsSoFar shown start fs now again v tally x) (sym is) cut
 
-module _ (names : List (List ℕ)) (start now later : Option (List ℕ)) (fs : List Finished) (again : List ℕ) (told : ℕ) where
-  next : (b : Bool) (text : List ℕ) → AreLinesOf names 0 fs b text → told ≡ length fs → false ≡ b → AreLinesOf names 0 fs true (text ++ begun_line names told)
+module _ (shown : Bool × List (List ℕ)) (start now later : Option (List ℕ)) (fs : List Finished) (again : List ℕ) (tally : Tally) where
+  next : (b : Bool) (text : List ℕ) → AreLinesOf shown 0 fs b text → tally ≡ tally_of_cases fs → false ≡ b → AreLinesOf shown 0 fs true (text ++ begun_text shown tally.cases)
   next b text is count same =
-      let here : 0 + length fs ≡ told = omega (arith, count) in
-      subst (λ n. AreLinesOf names 0 fs true (text ++ begun_line names n)) here (begins names 0 fs text (subst (λ b. AreLinesOf names 0 fs b text) (sym same) is))
+      let cases : tally.cases ≡ length fs = ap (λ t. t.cases) count in let here : 0 + length fs ≡ tally.cases = omega (arith, cases) in
+      subst (λ n. AreLinesOf shown 0 fs true (text ++ begun_text shown n)) here (begins shown 0 fs text (subst (λ b. AreLinesOf shown 0 fs b text) (sym same) is))
+
+  ends : (time : Option (ℕ × ℕ)) → tally ≡ tally_of_cases fs → again ≡ again_lines shown.0 fs → again ++ last_line time tally ≡ closing_lines shown.0 time fs
+  ends time count kept = ap₂ (λ l t. l ++ last_line time t) kept count
 
   -- a test case begins
-  pub so_begun : IsSoFar names start fs now again None told false → Appends now later (begun_line names told) → IsSoFar names start fs later again None told true
+  pub so_begun : IsSoFar shown start fs now again None tally false → Appends now later (begun_text shown tally.cases) → IsSoFar shown start fs later again None tally true
   so_begun (b, text, is, (count, same, out, kept)) p =
-      (true, text ++ begun_line names told, next b text is count same, (count, refl, appends_both start now later text (begun_line names told) out p, kept))
+      (true, text ++ begun_text shown tally.cases, next b text is count same, (count, refl, appends_both start now later text (begun_text shown tally.cases) out p, kept))
 
   -- or its line is not printed whole
-  pub so_cut : IsSoFar names start fs now again None told false → AppendsPrefix now later (begun_line names told) → IsCut names start fs later
+  pub so_cut : IsSoFar shown start fs now again None tally false → AppendsPrefix now later (begun_text shown tally.cases) → IsCut shown start fs later
   so_cut (b, text, is, (count, same, out, kept)) p =
-      (true, text ++ begun_line names told, next b text is count same, prefix_behind start now later text (begun_line names told) out p)
+      (true, text ++ begun_text shown tally.cases, next b text is count same, prefix_behind start now later text (begun_text shown tally.cases) out p)
 
   module _ (f : Finished) (time : Option (ℕ × ℕ)) (more : List ℕ) where
     abbrev line : List ℕ
-    line = finished_line (case_place names told) time f
+    line = finished_text shown tally.cases time f
 
-    longer : (b : Bool) (text : List ℕ) → AreLinesOf names 0 fs b text → told ≡ length fs → true ≡ b → AreLinesOf names 0 (fs ++ f ∷ []) false (text ++ line)
+    longer : (b : Bool) (text : List ℕ) → AreLinesOf shown 0 fs b text → tally ≡ tally_of_cases fs → true ≡ b → AreLinesOf shown 0 (fs ++ f ∷ []) false (text ++ line)
     longer b text is count same =
-        let here : 0 + length fs ≡ told = omega (arith, count) in
-        subst (λ n. AreLinesOf names 0 (fs ++ f ∷ []) false (text ++ finished_line (case_place names n) time f)) here
-        (finishes names 0 fs f time text (subst (λ b. AreLinesOf names 0 fs b text) (sym same) is))
+        let cases : tally.cases ≡ length fs = ap (λ t. t.cases) count in let here : 0 + length fs ≡ tally.cases = omega (arith, cases) in
+        subst (λ n. AreLinesOf shown 0 (fs ++ f ∷ []) false (text ++ finished_text shown n time f)) here
+        (finishes shown 0 fs f time text (subst (λ b. AreLinesOf shown 0 fs b text) (sym same) is))
 
     -- it is reported
-    pub so_told : (n : ℕ) → n ≡ told + 1 → IsSoFar names start fs now again None told true → Appends now later line → more ≡ again ++ failed_lines (f ∷ [])
-        → IsSoFar names start (fs ++ f ∷ []) later more None n false
-    so_told n next (b, text, is, (count, same, out, kept)) p add =
-        let long = length-append fs (f ∷ []) in
-        let all : n ≡ length (fs ++ f ∷ []) = omega (arith, next, count, long) in
-        let again_all = add ∙ ap (λ l. l ++ failed_lines (f ∷ [])) kept ∙ sym (failed_more fs f) in
-        (false, text ++ line, longer b text is count same, (all, refl, appends_both start now later text line out p, again_all))
+    pub so_told : (one : Tally) → IsOneMore tally f one → IsSoFar shown start fs now again None tally true → Appends now later line → more ≡ again ++ again_lines shown.0 (f ∷ [])
+        → IsSoFar shown start (fs ++ f ∷ []) later more None one false
+    so_told one next (b, text, is, (count, same, out, kept)) p add =
+        let again_all = add ∙ ap (λ l. l ++ again_lines shown.0 (f ∷ [])) kept ∙ sym (again_more shown.0 fs f) in
+        (false, text ++ line, longer b text is count same, (next fs count, refl, appends_both start now later text line out p, again_all))
 
     -- or its line is not printed whole
-    pub so_part : IsSoFar names start fs now again None told true → AppendsPrefix now later line → IsCut names start (fs ++ f ∷ []) later
+    pub so_part : IsSoFar shown start fs now again None tally true → AppendsPrefix now later line → IsCut shown start (fs ++ f ∷ []) later
     so_part (b, text, is, (count, same, out, kept)) p = (false, text ++ line, longer b text is count same, prefix_behind start now later text line out p)
 
-  -- those that have failed are printed again
-  pub so_ended : (x : Bool) (answer : Result (Unit {0}) OutFault) → IsSoFar names start fs now again None told x → OnOk answer (Appends now later again)
-      → OnErr answer (AppendsPrefix now later again) → IsToldBy true start later fs answer
-  so_ended x (Ok done) (b, text, is, (count, same, out, kept)) all part =
-      (names, b, text, is, subst (λ l. Appends start later (text ++ l)) kept (appends_both start now later text again out all), tt)
-  so_ended x (Err fault) (b, text, is, (count, same, out, kept)) all part =
-      (names, b, text, is, tt, subst (λ l. AppendsPrefix start later (text ++ l)) kept (prefix_behind start now later text again out part))
+  -- those that have failed are printed again, and how many there were
+  pub so_ended : (x : Bool) (time : Option (ℕ × ℕ)) (answer : Result (Unit {0}) OutFault) → IsSoFar shown start fs now again None tally x
+      → OnOk answer (Appends now later (again ++ last_line time tally)) → OnErr answer (AppendsPrefix now later (again ++ last_line time tally))
+      → IsToldBy true shown start later fs answer
+  so_ended x time (Ok done) (b, text, is, (count, same, out, kept)) all part =
+      (b, text, time, is, subst (λ l. Appends start later (text ++ l)) (ends time count kept) (appends_both start now later text (again ++ last_line time tally) out all), tt)
+  so_ended x time (Err fault) (b, text, is, (count, same, out, kept)) all part =
+      (b, text, time, is, tt, subst (λ l. AppendsPrefix start later (text ++ l)) (ends time count kept) (prefix_behind start now later text (again ++ last_line time tally) out part))
 
-module _ (names : List (List ℕ)) (start now : Option (List ℕ)) (fs : List Finished) where
+module _ (shown : Bool × List (List ℕ)) (start now : Option (List ℕ)) (fs : List Finished) where
   -- nothing more is printed
-  pub lost : (f : Finished) → IsCut names start fs now → IsCut names start (fs ++ f ∷ []) now
+  pub lost : (f : Finished) → IsCut shown start fs now → IsCut shown start (fs ++ f ∷ []) now
   lost f (b, text, is, part) = go b is
     where
       next : List ℕ
-      next = begun_line names (0 + length fs)
+      next = begun_text shown (0 + length fs)
 
       line : List ℕ
-      line = finished_line (case_place names (0 + length fs)) None f
+      line = finished_text shown (0 + length fs) None f
 
-      go : (b : Bool) → AreLinesOf names 0 fs b text → IsCut names start (fs ++ f ∷ []) now
-      go true is = (false, text ++ line, finishes names 0 fs f None text is, prefix_longer start now text line part)
+      go : (b : Bool) → AreLinesOf shown 0 fs b text → IsCut shown start (fs ++ f ∷ []) now
+      go true is = (false, text ++ line, finishes shown 0 fs f None text is, prefix_longer start now text line part)
       go false is = (
         false,
         (text ++ next) ++ line,
-        finishes names 0 fs f None (text ++ next) (begins names 0 fs text is),
+        finishes shown 0 fs f None (text ++ next) (begins shown 0 fs text is),
         prefix_longer start now (text ++ next) line (prefix_longer start now text next part),
       )
 
-  pub cut_told : (fault : OutFault) → IsCut names start fs now → IsToldBy true start now fs (Err fault)
-  cut_told fault (b, text, is, part) = (names, b, text, is, tt, prefix_longer start now text (failed_lines fs) part)
+  pub cut_told : (fault : OutFault) → IsCut shown start fs now → IsToldBy true shown start now fs (Err fault)
+  cut_told fault (b, text, is, part) = (b, text, None, is, tt, prefix_longer start now text (closing_lines shown.0 None fs) part)
 
 module _ {O E C : Type 0} (contents : E → Option (List ℕ)) (takes : O → Finished → O → Bool → Type 0) where
   -- what a test case does to a `Progress`, and to the observer that it passes it on to
   abbrev pub Takes : Progress O E C → Finished → Progress O E C → Bool → Type 0
   Takes before f after goes_on =
       takes before.observer.now f after.observer.now goes_on × TellsProgress contents before f after
+      × KeepsTimes before.watch.now.cases 1 after.watch.now.cases × (after.watch.ghost_name ≡ before.watch.ghost_name)
       × (after.observer.ghost_name ≡ before.observer.ghost_name) × (after.writer.ghost_name ≡ before.writer.ghost_name)
-      × (after.failed.ghost_name ≡ before.failed.ghost_name) × (after.names ≡ before.names)
+      × (after.failed.ghost_name ≡ before.failed.ghost_name) × (after.shown ≡ before.shown)
 
-  -- the other observer and the writers are the same ones
+  -- the other observer and the writers are the same ones, and the same lines are printed
   abbrev pub AreSame : Progress O E C → Progress O E C → Type 0
   AreSame before after =
-      (after.observer.ghost_name ≡ before.observer.ghost_name) × (after.writer.ghost_name ≡ before.writer.ghost_name)
-      × (after.failed.ghost_name ≡ before.failed.ghost_name)
+      (after.watch.ghost_name ≡ before.watch.ghost_name) × (after.observer.ghost_name ≡ before.observer.ghost_name)
+      × (after.writer.ghost_name ≡ before.writer.ghost_name) × (after.failed.ghost_name ≡ before.failed.ghost_name) × (after.shown ≡ before.shown)
 
   -- the test cases that were taken were reported and passed on
   pub all_told : (start : Option (List ℕ)) (done fs : List Finished) (before after : Progress O E C) → HasTold contents start done before
@@ -192,14 +206,14 @@ module _ {O E C : Type 0} (contents : E → Option (List ℕ)) (takes : O → Fi
   all_told start done [] before after at same = (
     ap (λ p. p.observer.now) same,
     subst (λ l. HasTold contents start l after) (sym (append-nil done)) (subst (HasTold contents start done) (sym same) at),
-    (ap (λ p. p.observer.ghost_name) same, ap (λ p. p.writer.ghost_name) same, ap (λ p. p.failed.ghost_name) same),
+    (ap (λ p. p.watch.ghost_name) same, ap (λ p. p.observer.ghost_name) same, ap (λ p. p.writer.ghost_name) same, ap (λ p. p.failed.ghost_name) same, ap (λ p. p.shown) same),
   )
   all_told start done (f ∷ fs) before after at taken =
       let one = taken.1 in
       let rest = all_told start (done ++ f ∷ []) fs taken.0 after (one.1 start done at) taken.2 in (
         (taken.0.observer.now, one.0, rest.0),
         subst (λ l. HasTold contents start l after) (append_assoc done (f ∷ []) fs) rest.1,
-        (rest.2.0 ∙ one.2, rest.2.1 ∙ one.3, rest.2.2 ∙ one.4),
+        (rest.2.0 ∙ one.3, rest.2.1 ∙ one.4, rest.2.2 ∙ one.5, rest.2.3 ∙ one.6, rest.2.4 ∙ one.7),
       )
 
   -- and so was the last, if the other observer has ended the campaign
@@ -211,19 +225,100 @@ module _ {O E C : Type 0} (contents : E → Option (List ℕ)) (takes : O → Fi
       let one = ended.at_last in (
         record { others = ended.others; last = ended.last; all = ended.all; between = ended.between.observer.now; each = others.0; at_last = one.0 },
         subst (λ l. HasTold contents start l after) (sym ended.all) (one.1 start ended.others others.1),
-        (one.2 ∙ others.2.0, one.3 ∙ others.2.1, one.4 ∙ others.2.2),
+        (one.3 ∙ others.2.0, one.4 ∙ others.2.1, one.5 ∙ others.2.2, one.6 ∙ others.2.3, one.7 ∙ others.2.4),
       )
 
-pub one_same : (f : Finished) (b : History) → IsBlockOf f b → block_summary b ≡ case_summary f
-one_same f b is =
-    let ended : case_end (reverse f.report.history) ≡ CaseEnd.Over f.report.verdict = rw (is.report.over, is.report.verdict) refl in
-    rw (is.name, is.entries, is.report.locals, ended) refl
+named_entries : (es : List Entry) → flat_map named_in (map Line.Entry es) ≡ []
+named_entries [] = refl
+named_entries (e ∷ es) = named_entries es
 
-all_same : (fs : List Finished) (bs : List History) → AllZip IsBlockOf fs bs → map block_summary bs ≡ map case_summary fs
-all_same [] [] each = refl
-all_same [] (b ∷ bs) each = absurd each
-all_same (f ∷ fs) [] each = absurd each
-all_same (f ∷ fs) (b ∷ bs) each = rw (one_same f b each.0, all_same fs bs each.1) refl
+named_all : (run : ℕ) (names : List (List ℕ)) (es : List Entry) → flat_map named_in (namings run names ++ map Line.Entry es) ≡ map (λ p. record { run = p.0; name = p.1 }) (enumerate_from run names)
+named_all run [] es = named_entries es
+named_all run (n ∷ ns) es = ap (λ (l : List Naming). record { run = run; name = n } ∷ l) (named_all (run + 1) ns es)
 
-pub summaries_of_histories : SummariesOfHistories
-summaries_of_histories r bs each = all_same r.finished bs each
+entries_silent : (at : ℕ) (es : List Entry) → remarks_from at (map Line.Entry es) ≡ []
+entries_silent at [] = refl
+entries_silent at (e ∷ es) = entries_silent (at + 1) es
+
+no_remarks : (at run : ℕ) (names : List (List ℕ)) (es : List Entry) → remarks_from at (namings run names ++ map Line.Entry es) ≡ []
+no_remarks at run [] es = entries_silent at es
+no_remarks at run (n ∷ ns) es = no_remarks at (run + 1) ns es
+
+only_entries : (es : List Entry) → entries_of (map Line.Entry es) ≡ es
+only_entries [] = refl
+only_entries (e ∷ es) = ap (λ (l : List Entry). e ∷ l) (only_entries es)
+
+after_namings : (run : ℕ) (names : List (List ℕ)) (es : List Entry) → entries_of (namings run names ++ map Line.Entry es) ≡ es
+after_namings run [] es = only_entries es
+after_namings run (n ∷ ns) es = after_namings (run + 1) ns es
+
+abbrev said_mk : List Naming → List Remark → Said
+said_mk names remarks = record { names = names; remarks = remarks }
+
+-- what a block that a run writes says
+said_so : (run : ℕ) (names : List (List ℕ)) (es : List Entry)
+    → said_in (namings run names ++ map Line.Entry es) ≡ said_mk (map (λ p. record { run = p.0; name = p.1 }) (enumerate_from run names)) []
+said_so run names es = ap₂ said_mk (named_all run names es) (no_remarks 0 run names es)
+
+said_written : (kind : Kind) (f : Finished) → said_in (name_lines (block_names kind f) ++ map Line.Entry f.report.history) ≡ said_of kind f
+said_written Kind.Evidence f = said_so 0 (take f.report.behaviours f.names) f.report.history
+said_written Kind.History1 f = said_so 0 [] f.report.history
+said_written Kind.History2 f = said_so 0 [] f.report.history
+
+-- the entries of such a block are those of the test case
+pub entries_written : (kind : Kind) (f : Finished) → entries_of (name_lines (block_names kind f) ++ map Line.Entry f.report.history) ≡ f.report.history
+entries_written Kind.Evidence f = after_namings 0 (take f.report.behaviours f.names) f.report.history
+entries_written Kind.History1 f = after_namings 0 [] f.report.history
+entries_written Kind.History2 f = after_namings 0 [] f.report.history
+
+pub one_same : (kind : Kind) (f : Finished) (b : Block) → IsBlockOf kind f b → block_summary b ≡ written_summary kind f
+one_same kind f b is =
+    let past = reverse f.report.history in
+    let ended : (if is_over past then CaseEnd.Over (overall past) else CaseEnd.Unfinished) ≡ CaseEnd.Over f.report.verdict = rw (is.report.over, is.report.verdict) refl in
+    let said = ap said_in is.lines ∙ said_written kind f in
+    let entries = ap entries_of is.lines ∙ entries_written kind f in
+    ap (λ (x : Said). summary_of b.header.name b.header.behaviours (entries_of b.lines) x) said
+    ∙ (ap (λ (es : List Entry). summary_of b.header.name b.header.behaviours es (said_of kind f)) entries
+    ∙ (ap₂ (λ (name : List ℕ) (n : ℕ). summary_of name n f.report.history (said_of kind f)) is.name is.behaviours ∙ rw (is.report.locals, ended) refl))
+
+all_same : (kind : Kind) (fs : List Finished) (bs : List Block) → AllZip (IsBlockOf kind) fs bs → map block_summary bs ≡ map (written_summary kind) fs
+all_same kind [] [] each = refl
+all_same kind [] (b ∷ bs) each = absurd each
+all_same kind (f ∷ fs) [] each = absurd each
+all_same kind (f ∷ fs) (b ∷ bs) each = rw (one_same kind f b each.0, all_same kind fs bs each.1) refl
+
+pub summaries_of_blocks : SummariesOfBlocks
+summaries_of_blocks kind r bs each = all_same kind r.finished bs each
+
+-- ---- what is said next to entries, and one line more
+
+remarks_more : (at : ℕ) (ls : List Line) (l : Line) → remarks_from at (ls ++ l ∷ []) ≡ remarks_from at ls ++ remarks_from (at + length (entries_of ls)) (l ∷ [])
+remarks_more at [] l = let same : at ≡ at + 0 = omega arith in ap (λ k. remarks_from k (l ∷ [])) same
+remarks_more at (Line.Entry e ∷ ls) l =
+    let same : (at + 1) + length (entries_of ls) ≡ at + length (e ∷ entries_of ls) = omega arith in
+    remarks_more (at + 1) ls l ∙ ap (λ k. remarks_from (at + 1) ls ++ remarks_from k (l ∷ [])) same
+remarks_more at (Line.Named run name ∷ ls) l = remarks_more at ls l
+remarks_more at (Line.Remark run said ∷ ls) l = ap (λ (rs : List Remark). record { at = at; run = run; sentence = said } ∷ rs) (remarks_more at ls l)
+remarks_more at (Line.Refused run said ∷ ls) l = remarks_more at ls l
+
+named_last : (ls : List Line) (l : Line) → flat_map named_in (ls ++ l ∷ []) ≡ flat_map named_in ls ++ named_in l
+named_last ls l = flat_map-append named_in ls (l ∷ []) ∙ ap (λ (x : List Naming). flat_map named_in ls ++ x) (append-nil (named_in l))
+
+-- a line that is neither a name nor a remark
+silent_more : (ls : List Line) (l : Line) → named_in l ≡ [] → remarks_from (0 + length (entries_of ls)) (l ∷ []) ≡ [] → said_in (ls ++ l ∷ []) ≡ said_in ls
+silent_more ls l nameless still =
+    ap₂ said_mk (named_last ls l ∙ (ap (λ (x : List Naming). flat_map named_in ls ++ x) nameless ∙ append-nil (flat_map named_in ls)))
+    (remarks_more 0 ls l ∙ (ap (λ (x : List Remark). remarks_from 0 ls ++ x) still ∙ append-nil (remarks_from 0 ls)))
+
+pub said_more : (ls : List Line) (l : Line) → said_in (ls ++ l ∷ []) ≡ said_with (said_in ls) (length (entries_of ls)) l
+said_more ls (Line.Named run name) = ap₂ said_mk (named_last ls (Line.Named run name)) (remarks_more 0 ls (Line.Named run name) ∙ append-nil (remarks_from 0 ls))
+said_more ls (Line.Entry e) = silent_more ls (Line.Entry e) refl refl
+said_more ls (Line.Remark run said) =
+    let same : 0 + length (entries_of ls) ≡ length (entries_of ls) = omega arith in
+    ap₂ said_mk (named_last ls (Line.Remark run said) ∙ append-nil (flat_map named_in ls))
+    (remarks_more 0 ls (Line.Remark run said) ∙ ap (λ k. remarks_from 0 ls ++ remarks_from k (Line.Remark run said ∷ [])) same)
+said_more ls (Line.Refused run said) = silent_more ls (Line.Refused run said) refl refl
+
+-- an entry adds nothing to it
+pub entry_said : {said : Said} (ls : List Line) (e : Entry) → said ≡ said_in ls → said ≡ said_in (ls ++ Line.Entry e ∷ [])
+entry_said ls e is = is ∙ sym (said_more ls (Line.Entry e))

@@ -68,9 +68,7 @@ starts_still n past e c r legal h =
 
 not_the_run : (p : Phase) (b : ℕ) → is_running p ≡ false → is_run_of b p ≡ false
 not_the_run (Phase.Running run) b h = absurd cc
-not_the_run Phase.Inactive b h = refl
-not_the_run Phase.Stopped b h = refl
-not_the_run Phase.Killed b h = refl
+not_the_run _ b h = refl
 
 -- the run that an entry starts on a component is what runs there then
 started_runs : (n : ℕ) (past : List Entry) (e : Entry) (b c : ℕ) (r : Run) → e.reply ≡ answer n past e.caller.0 e.op → start_in e c ≡ Some r →

@@ -1,12 +1,12 @@
 -- Facts on legal histories.
 use Rattle.std.proofs.{Common.{ℕ, ◌≡◌, if◌then◌else◌, Bool, true, false, Option, Some, None, is_some, List, [], ◌∷◌, ◌++◌, refl, ap, sym, ◌∙◌, append_assoc, arith}, lemmas.Bool.Decides.nat_tests}
 use Rattle.tc_entry.specs.{Prelude.{Verdict, worst, is_ended}, declared.comp.Comp.Comp, declared.entry.Entry.Entry, declared.op.Op.Op, declared.phase.Phase.Phase, declared.reply.Reply.Reply}
-use Rattle.tc_rules.{specs.{Answers.{answer, is_active, is_run_of, plain_answer}, Inside.Words.{answer_unless, is_active_on, RunsNow}, Faults.fault, History.{comp_of, exists, halts, is_comp, kills}, Laws.{AnsweredIsRunning, KilledWasHalted, LocalOfWhole, OverForAll, SameComponentLater, verdicts_in}, Legal.IsLegal, Local.{gives, local, verdicts_of}, Phases.{phase, start_in, was_halted, was_killed}}, proofs.{Lemmas.Keeping.{halted_by, kill_halts}, Lemmas.Over.all_over, Lemmas.Sound.starts}}
+use Rattle.tc_rules.{specs.{Answers.{answer, is_active, is_run_of, plain_answer}, Inside.Words.{answer_unless, is_active_on, RunsNow}, Faults.fault, History.{comp_of, exists, halts, is_comp, is_over, kills}, Laws.verdicts_in, Legal.{IsAllOver, IsLegal}, Local.{gives, local, verdicts_of}, Phases.{phase, start_in, was_halted, was_killed}}, proofs.{Lemmas.Keeping.{halted_by, kill_halts}, Lemmas.Over.all_over, Lemmas.Sound.starts}}
 
-pub over_for_all : OverForAll
+pub over_for_all : (n : ℕ) (past : List Entry) → IsLegal n past → is_over past ≡ true → IsAllOver n past
 over_for_all = all_over
 
-pub killed_was_halted : KilledWasHalted
+pub killed_was_halted : (n : ℕ) (past : List Entry) (c : ℕ) → IsLegal n past → was_killed past c ≡ true → was_halted past c ≡ true
 killed_was_halted n [] c legal h = absurd cc
 killed_was_halted n (e ∷ past) c legal h =
     halted_by (exists past c) (kills e c) (was_killed past c) (is_some (start_in e c)) (halts (comp_of past e.caller.0) e c) (was_halted past c)
@@ -26,9 +26,7 @@ running_by : (b : ℕ) (p : Phase) → is_run_of b p ≡ true → p ≡ Phase.Ru
 running_by b (Phase.Running r) h =
     let e : r.0 ≡ b = grind (arith, nat_tests) in
     ap (λ (k : ℕ). Phase.Running (record { 0 = k })) e
-running_by b Phase.Inactive h = absurd cc
-running_by b Phase.Stopped h = absurd cc
-running_by b Phase.Killed h = absurd cc
+running_by b _ h = absurd cc
 
 pub runs_if_active : (past : List Entry) (e : Entry) → is_active past e.caller.0 ≡ true → (c : Comp) × RunsNow past e c
 unfolding is_active
@@ -38,7 +36,7 @@ runs_if_active past e h = by_comp (comp_of past e.caller.0) refl h
     by_comp (Some c) on active = (c, (on, running_by e.caller.0 (phase past c.0) active))
     by_comp None on active = absurd cc
 
-pub answered_is_running : AnsweredIsRunning
+pub answered_is_running : (n : ℕ) (past : List Entry) (e : Entry) → IsLegal n (e ∷ past) → is_ended e.reply ≡ false → (c : Comp) × RunsNow past e c
 answered_is_running n past e legal h =
     runs_if_active past e (active_if_answered n past e.caller.0 e.op e.reply legal.0 h)
 
@@ -47,20 +45,14 @@ stays_on : (later past : List Entry) (b : ℕ) (c : Comp) → comp_of past b ≡
 stays_on [] past b c h = h
 stays_on (l ∷ later) past b c h = rw (stays_on later past b c h) refl
 
-pub same_component_later : SameComponentLater
+pub same_component_later : (n : ℕ) (past later : List Entry) (e : Entry) → IsLegal n (e ∷ past) → is_ended e.reply ≡ false → comp_of (later ++ e ∷ past) e.caller.0 ≡ comp_of past e.caller.0
 same_component_later n past later e legal h =
     let r = answered_is_running n past e legal h in
     stays_on later (e ∷ past) e.caller.0 r.0 (stays_on (e ∷ []) past e.caller.0 r.0 r.1.0) ∙ sym r.1.0
 
 ended_gives_none : (op : Op) (reply : Reply) → is_ended reply ≡ true → gives op reply ≡ []
 ended_gives_none op Reply.Ended h = refl
-ended_gives_none op (Reply.Made c) h = absurd cc
-ended_gives_none op Reply.Ok h = absurd cc
-ended_gives_none op (Reply.Answer b) h = absurd cc
-ended_gives_none op (Reply.Local v) h = absurd cc
-ended_gives_none op Reply.Matched h = absurd cc
-ended_gives_none op Reply.Parked h = absurd cc
-ended_gives_none op (Reply.Fault f) h = absurd cc
+ended_gives_none op _ h = absurd cc
 
 none_given : (t u : Bool) (given vs ws : List Verdict) → given ≡ [] → vs ≡ ws → (if t then given else []) ++ vs ≡ (if u then given ++ ws else ws)
 none_given true true given vs ws g e = rw (g, e) refl
@@ -83,6 +75,6 @@ same_verdicts n (e ∷ past) later c legal =
         (ended_gives_none e.op e.reply h) same
     by_reply false h same = rw (same_component_later n past later e legal h, same) (given_if (is_comp (comp_of past e.caller.0) c) (gives e.op e.reply) (verdicts_of past c))
 
-pub local_of_whole : LocalOfWhole
+pub local_of_whole : (n : ℕ) (past : List Entry) (c : ℕ) → IsLegal n past → worst (verdicts_in past past c) ≡ local past c
 unfolding local
 local_of_whole n past c legal = ap worst (same_verdicts n past [] c legal)

@@ -1,7 +1,7 @@
 -- An entry that changes no component's phase, and whose caller continues, wakes nobody.
 use Rattle.std.{proofs.Common.{ℕ, ◌≡◌, ◌==◌, ◌&&◌, ◌||◌, not, if◌then◌else◌, Bool, true, false, Option, Some, None, is_some, List, [], ◌∷◌, ◌++◌, drop, refl, ap, sym, ◌∙◌}, specs.List.{list_any, list_all}}
 use Rattle.tc_entry.specs.{Prelude.{Run, is_ended, is_fault, is_ok}, declared.comp.Comp.Comp, declared.entry.Entry.Entry, declared.op.Op.Op, declared.op.Target.Target, declared.phase.Phase.Phase, declared.reply.Fault.Fault, declared.reply.Reply.Reply}
-use Rattle.tc_rules.{specs.{Answers.{answer, is_active, is_run_of}, Inside.Words.{answer_unless, is_active_on, first_some, starts_on, starts_run, phase_if_not_killed}, Faults.{all_exist, asks_many, fault, target_names}, History.{add_new, comp_of, comps, created, ends_case, exists, halts, is_alive_type, is_finish, is_in, kills}, Inside.Laws.{WakesNobody, halting_op, is_quiet, keeps_phases, lets_go_on}, Legal.IsLegal, Phases.{last_run, phase, start_in, was_halted, was_killed}, Status.{done, is_done, is_killed, is_running, killed}, Waiting.{holds, is_still, is_stuck, parks, waiting}, declared.awaited.Awaited.Awaited}, proofs.{Lemmas.Deciding.{and_left, and_no, and_right, first_alone, if_same, no_finish, no_kill, no_stop, no_stop_case, none_if, self_equal}, Lemmas.LawsOfHistories.answered_is_running, Lemmas.Over.{on_existing, stays}, Lemmas.Sound.starts, Lemmas.Stuck.one_false}}
+use Rattle.tc_rules.{specs.{Answers.{answer, is_active, is_run_of}, Inside.Words.{answer_unless, asks_many, is_active_on, first_some, starts_on, starts_run, phase_if_not_killed}, Faults.{all_exist, fault, target_names}, History.{add_new, comp_of, comps, created, ends_case, exists, halts, is_alive_type, is_finish, is_in, kills}, Inside.Laws.{WakesNobody, halting_op, is_quiet, keeps_phases, lets_go_on}, Legal.IsLegal, Phases.{last_run, phase, start_in, was_halted, was_killed}, Status.{done, is_done, is_killed, is_running, killed}, Waiting.{holds, is_still, is_stuck, parks, waiting}, declared.awaited.Awaited.Awaited}, proofs.{Lemmas.Deciding.{and_left, and_no, and_right, first_alone, if_same, no_finish, no_kill, no_stop, no_stop_case, none_if, self_equal}, Lemmas.LawsOfHistories.answered_is_running, Lemmas.Over.{on_existing, stays}, Lemmas.Sound.starts, Lemmas.Stuck.one_false}}
 
 -- what an operation that keeps the phases is not
 

@@ -1,10 +1,10 @@
 -- What a reader may take from a state that represents a history.
 use Rattle.std.proofs.Common.{ℕ, ◌≡◌, List, subst}
 use Rattle.tc_entry.specs.declared.entry.Entry.{Entry}
-use Rattle.tc_rules.specs.{Laws.StandsForLegal, Legal.IsLegal, Standing.Kept, Standing.StandsFor}
+use Rattle.tc_rules.specs.{Legal.IsLegal, Standing.Kept, Standing.StandsFor}
 
 -- a history that a state represents is legal
-pub stands_legal : StandsForLegal
+pub stands_legal : (k : Kept) (past : List Entry) → StandsFor k past → IsLegal k.behaviours past
 unfolding StandsFor
 stands_legal k past stands = stands.legal
 

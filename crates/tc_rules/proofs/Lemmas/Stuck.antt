@@ -89,9 +89,7 @@ module _ {n : ℕ} {past : List Entry} {states : List ComponentState} {runs : Li
       by_test false k on a =
           let out : n ≤ r.0 = grind (arith, nat_tests) in
           absurd (none_some (comp_of past r.0) (record { 0 = c }) (kept.no_other_run r.0 out).0 on)
-  still_at i kept end none c Phase.Inactive e = refl
-  still_at i kept end none c Phase.Stopped e = refl
-  still_at i kept end none c Phase.Killed e = refl
+  still_at i kept end none c _ e = refl
 
   pub stuck_if_none : (i : ℕ) → IsKept n past states runs over → n ≤ i → ((b : ℕ) → b < i → goes_on past b ≡ false) → is_stuck past ≡ true
   unfolding is_stuck

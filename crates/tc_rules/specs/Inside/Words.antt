@@ -1,7 +1,7 @@
 -- Parts of the public definitions that proofs speak of by a name.
-use Rattle.std.specs.{Prelude.{ℕ, ◌≡◌, ◌==◌, not, if◌then◌else◌, Bool, false, Option, Some, None, List, [], ◌∷◌}, Option.{option_and_then, option_map, option_map_or, option_or}}
+use Rattle.std.specs.{Prelude.{ℕ, ◌≡◌, ◌==◌, not, if◌then◌else◌, Bool, false, Option, Some, None, List, [], ◌∷◌, filter, length, sum_by}, Option.{option_and_then, option_map, option_map_or, option_or}}
 use Rattle.tc_entry.specs.{Prelude.Run, declared.comp.Comp.Comp, declared.entry.Entry.Entry, declared.op.Op.Op, declared.phase.Phase.Phase, declared.reply.Fault.Fault, declared.reply.Reply.Reply}
-use Rattle.tc_rules.specs.{Answers.is_run_of, Deciding.name_in, History.comp_of, History.created, History.is_comp, History.start, Local.local, Merge.part, Phases.phase, Waiting.holds, declared.awaited.Awaited.Awaited, declared.run_log.RunLog.RunLog}
+use Rattle.tc_rules.specs.{Answers.is_run_of, Deciding.name_in, Faults.is_many, Faults.target_of, History.comp_of, History.created, History.is_comp, History.start, Local.local, Merge.is_by, Merge.part, Phases.phase, Waiting.holds, declared.awaited.Awaited.Awaited, declared.run_log.RunLog.RunLog}
 
 -- the first of two that is there
 abbrev pub first_some : {A : Type 0} → Option A → Option A → Option A
@@ -51,3 +51,15 @@ RunsNow past e c = (comp_of past e.caller.0 ≡ Some c) × (phase past c.0 ≡ P
 -- the log of run b, if it was started: its component, and its part of the history
 abbrev pub log_if : Option Comp → List Entry → ℕ → List RunLog
 log_if comp history b = option_map_or (λ c. record { run = record { 0 = b }; comp = c; entries = part history b } ∷ []) comp []
+
+-- how many entries these logs have together
+abbrev pub logged : List RunLog → ℕ
+logged logs = sum_by (λ log. length log.entries) logs
+
+-- how many of these entries are by run b
+abbrev pub calls_of : ℕ → List Entry → ℕ
+calls_of b past = length (filter (is_by b) past)
+
+-- the call is about Any or All
+abbrev pub asks_many : Op → Bool
+asks_many op = option_map_or is_many (target_of op) false

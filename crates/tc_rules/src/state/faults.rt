@@ -4,6 +4,7 @@ ghost use Rattle.tc_entry.specs.declared.entry.Entry.{Entry};
 ghost use Rattle.tc_rules.specs.Standing.{StandsFor};
 ghost use Rattle.tc_rules.specs.Faults as faults;
 ghost use Rattle.tc_rules.specs.Inside.States as tests;
+ghost use Rattle.tc_rules.specs.Inside.Words as words;
 
 use crate::component_state::{all_below, is_killed, is_running};
 use crate::state::CaseState;
@@ -120,7 +121,7 @@ fn target_of(op: &Op) -> Option<Target>
 /// Whether a call is about Any or All.
 #[inline(always)]
 fn asks_many(op: &Op) -> bool
-    ensures { result ≡ faults.asks_many op.now }
+    ensures { result ≡ words.asks_many op.now }
 {
     match target_of(op) {
         Some(Target::One(_)) => false,

@@ -1,21 +1,11 @@
 -- The history of a report of scripts is a complete course of them.
-use Rattle.std.proofs.Common.{ℕ, ◌≡◌, ◌∙◌, ◌≢◌, ◌<◌, ◌≤◌, ◌==◌, ◌&&◌, ◌++◌, if◌then◌else◌, Bool, true, false, Option, Some, None, is_some, List, [], ◌∷◌, length, reverse, get_or, filter, cond, option_map, refl, sym, ap, subst, arith, append_assoc}
-use Rattle.std.proofs.lemmas.{Bool.Decides.nat_tests, List.Elements.filter-append, List.append-nil, List.reverse-append, List.reverse-reverse, Option.slice_get-get_or}
-use Rattle.std.specs.Option.{option_map_or}
-use Rattle.tc_rules.specs.Prelude.{Comp, Entry, Op, is_ok, comp_of, first_some, starts_run, IsLegal, part, is_by}
-use Rattle.tc_step.specs.declared.step.Step.{Step}
-use Rattle.tc_step.specs.Prelude.{ScriptView}
-use Rattle.tc_rules.proofs.Lemmas.{Deciding.equal_if, Deciding.self_equal, Differing.later_legal}
-use Rattle.tc_rules.specs.declared.closed.Closed.{Closed}
-use Rattle.tc_book.specs.Prelude.{all_started, PassState, LeftState, started_with, start_of, starts_with}
-use Rattle.tc_book.proofs.Lemmas.PartOf.{comp_is, part_end}
-use Rattle.tc_exec.specs.declared.job.Back.{Back}
-use Rattle.tc_exec.specs.Prelude.{IsCaseReport, IsMadeOf, IsLogBy, opening_pass}
-use Rattle.tc_exec.proofs.Lemmas.Logs.{log_of_run}
-use Rattle.tc_course.specs.Prelude.{CourseState, after_own, after_other_by, arguments, stand, steps_of, turn, turn_on, IsTurn, IsCourse, IsWitness}
-use Rattle.tc_course.proofs.Lemmas.{run_in_range, stand_other, stand_own, unstarted}
-use Rattle.tc_script.specs.{Calls.MakesItsCalls, Laws.ReportIsCourse, Laws.ReportIsFound}
-use Rattle.tc_script.proofs.{Lemmas.Running.run_grown, Logging.AreTurns, Logging.IsLogOf, Logging.IsOwnTurn, Logging.after_all, Logging.after_append, Logging.after_comp, Logging.fresh, Logging.log_left, Logging.turn_at}
+use Rattle.std.{proofs.{Common.{ℕ, ◌≡◌, ◌∙◌, ◌≢◌, ◌<◌, ◌≤◌, ◌==◌, ◌&&◌, ◌++◌, if◌then◌else◌, Bool, true, false, Option, Some, None, is_some, List, [], ◌∷◌, length, reverse, get_or, filter, cond, option_map, refl, sym, ap, subst, arith, append_assoc}, lemmas.{Bool.Decides.nat_tests, List.{Elements.filter-append, append-nil, reverse-append, reverse-reverse}, Option.slice_get-get_or}}, specs.Option.option_map_or}
+use Rattle.tc_rules.{specs.{Prelude.{Comp, Entry, Op, is_ok, comp_of, first_some, starts_run, IsLegal, part, is_by, start as started_by}, declared.closed.Closed.Closed}, proofs.Lemmas.{Deciding.{equal_if, self_equal}, Differing.later_legal}}
+use Rattle.tc_step.specs.{declared.step.Step.Step, Prelude.ScriptView}
+use Rattle.tc_book.{specs.Prelude.{all_started, PassState, LeftState, started_with, start_of, starts_with}, proofs.Lemmas.PartOf.{comp_is, part_end}}
+use Rattle.tc_exec.{specs.{declared.job.Back.Back, Prelude.{IsCaseReport, IsMadeOf, IsLogBy, opening_pass}}, proofs.Lemmas.Logs.log_of_run}
+use Rattle.tc_course.{specs.{declared.witness.Witness.Witness, Prelude.{AllFound, CourseState, after_own, after_other_by, stand, steps_of, turn, turn_on, IsTurn, IsCourse, IsWitness, is_found}}, proofs.Lemmas.{run_in_range, stand_other, stand_own, unstarted}}
+use Rattle.tc_script.{specs.{Calls.MakesItsCalls, Laws.IsReportOf}, proofs.{Lemmas.Running.run_grown, Logging.{AreTurns, IsLogOf, IsOwnTurn, after_all, after_append, after_comp, fresh, log_left, turn_at}}}
 
 -- ---- what a run was started with
 
@@ -57,11 +47,15 @@ abbrev IsKnown : Option (Comp × List Comp) → List Entry → CourseState → T
 IsKnown None log s = (log ≡ []) × (s ≡ unstarted)
 IsKnown (Some w) log s = s ≡ after_all (fresh w.0 w.1) log
 
-begun_by : (ok : Bool) (op : Op) (b : ℕ) (log : List Entry) → log ≡ [] → IsKnown (if ok then starts_with op b else None) log (started (if ok then starts_run op b else None) (arguments op b) unstarted)
+-- the arguments with which an operation starts a run, if it starts one
+abbrev given_in : Op → List Comp
+given_in op = option_map_or (λ t. t.2) (started_by op) []
+
+begun_by : (ok : Bool) (op : Op) (b : ℕ) (log : List Entry) → log ≡ [] → IsKnown (if ok then starts_with op b else None) log (started (if ok then starts_run op b else None) (given_in op) unstarted)
 begun_by false op b log none = (none, refl)
 begun_by true (Op.Start c run args) b log none = by (run.0 == b)
   where
-    by : (t : Bool) → IsKnown (if t then Some (c, args) else None) log (started (if t then Some c else None) (if t then args else []) unstarted)
+    by : (t : Bool) → IsKnown (if t then Some (c, args) else None) log (started (if t then Some c else None) args unstarted)
     by true = rw none refl
     by false = (none, refl)
 begun_by true _ b log none = (none, refl)
@@ -101,7 +95,7 @@ known (e ∷ past) b all =
         stand_other past e b w.0 other on ∙ (k ∙ ap (after_all (fresh w.0 w.1)) (sym (m ∙ append-nil (part (reverse past) b))))
     step false other None is k m =
         let same : stand (e ∷ past) b ≡ after_other_by (stand past b).comp e b (stand past b) = rw other refl in
-        let begins : stand (e ∷ past) b ≡ started (if is_ok e.reply then starts_run e.op b else None) (arguments e.op b) unstarted = same ∙ ap (λ (s : CourseState). after_other_by s.comp e b s) k.1 in
+        let begins : stand (e ∷ past) b ≡ started (if is_ok e.reply then starts_run e.op b else None) (given_in e.op) unstarted = same ∙ ap (λ (s : CourseState). after_other_by s.comp e b s) k.1 in
         let none : part (reverse (e ∷ past)) b ≡ [] = m ∙ ap (λ l. l ++ []) k.0 in
         subst (IsKnown (started_with e.op e.reply b) (part (reverse (e ∷ past)) b)) (sym begins) (begun_by (is_ok e.reply) e.op b (part (reverse (e ∷ past)) b) none)
 
@@ -140,21 +134,21 @@ some_same x y h = cc
 
 -- the pass that a script hands back is on the component and has the arguments of the start of its run
 begun_with : (s : ScriptView) (history entries : List Entry) (b : ℕ) (comp : Comp) (w : Comp × List Comp) (log : IsLogBy (MakesItsCalls s) history (record { run = record { 0 = b }; comp = comp; entries = entries }))
-    → given (reverse history) b ≡ Some w → (log.made.called.back.pass.me, log.made.called.back.pass.args) ≡ w
+    → given (reverse history) b ≡ Some w → (log.called.handed.pass.me, log.called.handed.pass.args) ≡ w
 begun_with s history entries b comp w log start = by (b == 0) refl start
   where
     back : Back
-    back = log.made.called.back
+    back = log.called.handed
 
     pair : PassState → Comp × List Comp
     pair p = (p.me, p.args)
 
     by : (t : Bool) → (b == 0) ≡ t → given_by t (start_of (reverse history) b) ≡ Some w → pair back.pass ≡ w
     by true zero is =
-        ap pair (run_grown s.steps log.made.pass back.pass back.ending log.made.called.outcome_of.calls).1
-        ∙ (ap pair (log.made.main (equal_if b 0 zero)) ∙ some_same (pair opening_pass) w is)
+        ap pair (run_grown s.steps log.called.given back.pass back.ending log.called.outcome_of.calls).1
+        ∙ (ap pair (log.called.main (equal_if b 0 zero)) ∙ some_same (pair opening_pass) w is)
     by false above is =
-        some_same (pair back.pass) w (sym log.made.called.left.started ∙ (log.started (grind (arith, nat_tests)) ∙ is))
+        some_same (pair back.pass) w (sym log.called.left.started ∙ (log.started (grind (arith, nat_tests)) ∙ is))
 
 -- ---- the course of a report
 
@@ -183,9 +177,9 @@ module _ (scripts : List ScriptView) (c : Closed) (report : IsCaseReport (length
       let s : ScriptView = get_or scripts b empty in
       let on : comp_of whole b ≡ Some w.0 = given_comp whole b ∙ ap (option_map (λ s. s.0)) start in
       let log = log_of_run MakesItsCalls own c scripts made b empty w.0 below on in
-      let called = log.made.called in
-      let pass : PassState = called.back.pass in
-      let is : IsLogOf s.steps pass.me pass.args log.left.log = log_left s log.made.pass called.back log.left log.made.new called.outcome_of called.ending called.left in
+      let called = log.called in
+      let pass : PassState = called.handed.pass in
+      let is : IsLogOf s.steps pass.me pass.args log.left.log = log_left s called.given called.handed log.left called.new called.outcome_of (sym log.returned) called.left in
       let same_start : (pass.me, pass.args) ≡ w = begun_with s c.history (part c.history b) b w.0 w log start in
       let same : IsLogOf s.steps w.0 w.1 log.left.log = subst (λ (x : Comp × List Comp). IsLogOf s.steps x.0 x.1 log.left.log) same_start is in
       subst (λ l. IsLogOf (steps_of scripts b) w.0 w.1 l) (sym log.entries) (subst (λ x. IsLogOf x w.0 w.1 log.left.log) (steps_at b below) same)
@@ -249,8 +243,8 @@ module _ (scripts : List ScriptView) (c : Closed) (report : IsCaseReport (length
   pub report_is_witness : IsWitness scripts c.history c.verdict
   report_is_witness = record { course = course [] whole refl; complete = complete; verdict = report.one_history.verdict }
 
-pub report_is_course : ReportIsCourse
+pub report_is_course : (scripts : List ScriptView) (c : Closed) → IsReportOf scripts c → IsWitness scripts c.history c.verdict
 report_is_course scripts c is = report_is_witness scripts c is.report is.made
 
-pub report_is_found : ReportIsFound
+pub report_is_found : (scripts : List ScriptView) (found : List Witness) (c : Closed) → AllFound scripts found → IsReportOf scripts c → is_found found c.verdict ≡ true
 report_is_found scripts found c all is = all c.history c.verdict (report_is_course scripts c is)

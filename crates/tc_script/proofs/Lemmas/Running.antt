@@ -1,12 +1,10 @@
 -- The pass as the steps of a script are called.
-use Rattle.std.proofs.Common.{ℕ, suc, ◌≡◌, ◌∙◌, ◌+◌, ◌<◌, inl, inr, ◌++◌, ◌==◌, Bool, false, true, refl, List, [], ◌∷◌, length, drop, get_or, drop-cons, arith, sym, ap, subst, append_assoc}
-use Rattle.std.proofs.lemmas.{Bool.Decides.nat_tests, Bool.false≢true, List.append-nil}
+use Rattle.std.proofs.{Common.{ℕ, suc, ◌≡◌, ◌∙◌, ◌+◌, ◌<◌, inl, inr, ◌++◌, ◌==◌, Bool, false, true, refl, List, [], ◌∷◌, length, drop, get_or, drop-cons, arith, sym, ap, subst, append_assoc}, lemmas.{Bool.{Decides.nat_tests, false≢true}, List.append-nil}}
 use Rattle.tc_rules.specs.Prelude.{Comp, Entry, Reply, Op}
-use Rattle.tc_step.specs.declared.step.Step.{Step}
-use Rattle.tc_step.specs.Prelude.{operation, target, AreBound, ScriptView}
+use Rattle.tc_step.specs.{declared.step.Step.Step, Prelude.{operation, target, AreBound, ScriptView}}
 use Rattle.tc_book.specs.Prelude.{PassState, has_ended, entry_of}
 use Rattle.tc_exec.specs.declared.job.Back.{Back}
-use Rattle.tc_script.specs.{Calls.Acts, Calls.Calls, Calls.HasCalled, Calls.HasCalled.none, Calls.HasCalled.one_more, Calls.HasRun, Inside.HasGrown, Inside.IsSoFar, Inside.IsStepped}
+use Rattle.tc_script.specs.{Calls.{Acts, Calls, HasCalled, HasCalled.{none, one_more}, HasRun}, Inside.{HasGrown, IsSoFar, IsStepped}}
 
 abbrev with_log : PassState → List Entry → PassState
 with_log p log = record p { log = log }
@@ -17,10 +15,6 @@ grown_more p q z one two =
 
 calls_grow : (s : Step) (bound : List Comp) (p q : PassState) (r : Reply) → Calls bound s p q r → HasGrown p q
 calls_grow (Step.Create alive name) bound p q r is = (entry_of p.run (Op.Create alive name) r ∷ [], is)
-calls_grow (Step.Start on run args) bound p q r is = (entry_of p.run (operation p.me bound (Step.Start on run args)) r ∷ [], is)
-calls_grow (Step.Stop g) bound p q r is = (entry_of p.run (operation p.me bound (Step.Stop g)) r ∷ [], is)
-calls_grow (Step.Kill g) bound p q r is = (entry_of p.run (operation p.me bound (Step.Kill g)) r ∷ [], is)
-calls_grow (Step.Ask status t) bound p q r is = (entry_of p.run (operation p.me bound (Step.Ask status t)) r ∷ [], is)
 calls_grow (Step.Wait killed t) bound p q r (inl is, awake) = (entry_of p.run (Op.Wait killed (target p.me bound t)) r ∷ [], is)
 calls_grow (Step.Wait killed t) bound p q r (inr is, awake) =
     let wait = entry_of p.run (Op.Wait killed (target p.me bound t)) Reply.Parked in
@@ -29,6 +23,7 @@ calls_grow (Step.Wait killed t) bound p q r (inr is, awake) =
 calls_grow (Step.SetVerdict v) bound p q r is = (entry_of p.run (Op.SetVerdict v) r ∷ [], is)
 calls_grow Step.StopCase bound p q r is = (entry_of p.run Op.StopCase r ∷ [], is)
 calls_grow Step.GetVerdict bound p q r is = (entry_of p.run Op.GetVerdict r ∷ [], is)
+calls_grow step bound p q r is = (entry_of p.run (operation p.me bound step) r ∷ [], is)
 
 grown_none : (p : PassState) → HasGrown p p
 grown_none p = ([], ap (with_log p) (sym (append-nil p.log)))

@@ -1,20 +1,12 @@
 -- In a test case that a text spells each run is started with as many arguments as its behaviour has parameters, so each script makes the
 -- calls of its steps.
-use Rattle.std.proofs.Common.{ℕ, zero, suc, ◌≡◌, ◌∙◌, ◌<◌, ◌==◌, if◌then◌else◌, inl, inr, Bool, true, false, Option, Some, None, List, [], ◌∷◌, All, length, map, get_or, reverse, refl, sym, ap, subst, arith}
-use Rattle.std.specs.Prelude.{slice_get, IfSome}
-use Rattle.std.specs.Option.{option_map}
-use Rattle.std.proofs.lemmas.{Bool.Decides.nat_tests, List.Elements.All-append, List.Elements.All-cons, List.Elements.All-get_or, List.Elements.All-nil, List.Elements.All-tail, List.get_or-map, List.length-map, List.reverse-append, Option.slice_get-get_or, Option.slice_get-map}
-use Rattle.tc_rules.specs.Prelude.{Run, Comp, Entry, Op, Reply, is_ok, comp_of, first_some, answer, IsLegal, part, IsOneHistory}
+use Rattle.std.{proofs.{Common.{ℕ, zero, suc, ◌≡◌, ◌∙◌, ◌<◌, ◌==◌, if◌then◌else◌, inl, inr, Bool, true, false, Option, Some, None, List, [], ◌∷◌, All, length, map, get_or, reverse, refl, sym, ap, subst, arith}, lemmas.{Bool.Decides.nat_tests, List.{Elements.{All-append, All-cons, All-get_or, All-nil, All-tail}, get_or-map, length-map, reverse-append}, Option.{slice_get-get_or, slice_get-map}}}, specs.{Prelude.{slice_get, IfSome}, Option.option_map}}
+use Rattle.tc_rules.specs.{Prelude.{Run, Comp, Entry, Op, Reply, is_ok, comp_of, first_some, answer, IsLegal, part, IsOneHistory}, declared.closed.Closed.Closed}
 use Rattle.tc_step.specs.Prelude.{ScriptView}
 use Rattle.tc_reader.specs.Prelude.{Word, Head, signatures, StartsOne, IsCase}
-use Rattle.tc_rules.specs.declared.closed.Closed.{Closed}
-use Rattle.tc_book.specs.Prelude.{IsFitting, LeftState, start_of, started_with}
-use Rattle.tc_book.proofs.Lemmas.{PartOf.comp_is, Starting.starts_below}
-use Rattle.tc_exec.specs.declared.job.Ending.{Ending}
-use Rattle.tc_exec.specs.Prelude.{AreCalled, IsMadeOf, WasCalled, WasStarted, IsLeftBy}
-use Rattle.tc_exec.proofs.Lemmas.Calls.{all_called, unstarted_comp}
-use Rattle.tc_script.specs.Calls.{Acts, MakesItsCalls}
-use Rattle.tc_script.proofs.{Giving.GiveAll, Giving.GivesAll, Giving.worker_gives, Lemmas.Running.acts_grown}
+use Rattle.tc_book.{specs.Prelude.{IsFitting, LeftState, start_of, started_with}, proofs.Lemmas.{PartOf.comp_is, Starting.starts_below}}
+use Rattle.tc_exec.{specs.Prelude.{AreCalled, IsMadeOf, WasCalled, IsLeftBy}, proofs.Lemmas.Calls.{all_called, unstarted_comp}}
+use Rattle.tc_script.{specs.Calls.{Acts, MakesItsCalls}, proofs.{Giving.{GiveAll, GivesAll, worker_gives}, Lemmas.Running.acts_grown}}
 
 -- ---- a history and its starts
 
@@ -106,16 +98,16 @@ caller_below c k d (suc b) one some below is = by (start_of (reverse c.history) 
 
 -- the run of what a worker left
 own_run : (run : Run) (s : ScriptView) (l : LeftState) → IsLeftBy Acts run s l → l.run ≡ run
-own_run run s l (inl none) = ap (λ h. h.left.run) none
-own_run run s l (inr w) = w.called.left.run ∙ ap (λ q. q.run) (acts_grown s _ _ w.called.outcome_of).1 ∙ w.own
+own_run run s l (inl none) = ap (λ m. m.run) none
+own_run run s l (inr w) = w.0.left.run ∙ ap (λ q. q.run) (acts_grown s _ _ w.0.outcome_of).1 ∙ w.0.own
 
 -- with these arguments a started run was called
-called_with : (history : List Entry) (run : Run) (s : ScriptView) (l : LeftState) (w : WasStarted run (λ p. WasCalled (Acts s p) (record { left = l; ending = Ending.Returned }))) → IsFitting history l → 0 < run.0
-    → start_of (reverse history) run.0 ≡ Some (w.pass.me, w.pass.args)
+called_with : (history : List Entry) (run : Run) (s : ScriptView) (l : LeftState) (w : WasCalled (Acts s) run l) → IsFitting history l → 0 < run.0
+    → start_of (reverse history) run.0 ≡ Some (w.given.me, w.given.args)
 called_with history run s l w fits above =
-    let same : l.run ≡ run = own_run run s l (inr w) in
+    let same : l.run ≡ run = w.left.run ∙ ap (λ q. q.run) (acts_grown s _ _ w.outcome_of).1 ∙ w.own in
     let known : l.started ≡ start_of (reverse history) l.run.0 = fits.started (rw same above) in
-    ap (λ r. start_of (reverse history) r.0) (sym same) ∙ sym known ∙ w.called.left.started ∙ ap (λ q. Some (q.me, q.args)) (acts_grown s _ _ w.called.outcome_of).1
+    ap (λ r. start_of (reverse history) r.0) (sym same) ∙ sym known ∙ w.left.started ∙ ap (λ q. Some (q.me, q.args)) (acts_grown s _ _ w.outcome_of).1
 
 no_script : Word × ScriptView
 no_script = ([], record { parameters = 0; steps = [] })
@@ -181,14 +173,14 @@ module _ (scripts : List (Word × ScriptView)) (c : Closed) (lawful : IsCase scr
   main_has_none some = subst (λ o. IfSome o (λ b. b.1.parameters ≡ 0)) (slice_get-get_or scripts 0 no_script some) lawful.main
 
   -- each behaviour was called with as many arguments as it has parameters
-  as_many : (k : ℕ) (l : LeftState) → k < length scripts → (w : WasStarted (record { 0 = k }) (λ p. WasCalled (Acts (script k) p) (record { left = get_or made.handed.lefts k l; ending = Ending.Returned })))
-      → length w.pass.args ≡ (script k).parameters
+  as_many : (k : ℕ) (l : LeftState) → k < length scripts → (w : WasCalled (Acts (script k)) (record { 0 = k }) (get_or made.handed.lefts k l))
+      → length w.given.args ≡ (script k).parameters
   as_many zero l below w = ap (λ p. length p.args) (w.main refl) ∙ sym (main_has_none below)
   as_many (suc k) l below w =
       let some : 0 < length scripts = omega (arith, below) in
       let started = called_with c.history (record { 0 = suc k }) (script (suc k)) (get_or made.handed.lefts (suc k) l) w (worker (suc k) l below).1 (omega arith) in
       let past : GiveAll heads (reverse c.history) = reversed (λ e. GivesAll heads e.op) c.history (history_gives some) in
-      has_as_many (suc k) w.pass.args below (start_gives heads (reverse c.history) (suc k) (w.pass.me, w.pass.args) past started)
+      has_as_many (suc k) w.given.args below (start_gives heads (reverse c.history) (suc k) (w.given.me, w.given.args) past started)
 
   made_its_calls : (k : ℕ) (l : LeftState) → k < length scripts → IsLeftBy MakesItsCalls (record { 0 = k }) (script k) (get_or made.handed.lefts k l)
   made_its_calls k l below = by (worker k l below).0
@@ -196,14 +188,9 @@ module _ (scripts : List (Word × ScriptView)) (c : Closed) (lawful : IsCase scr
       by : IsLeftBy Acts (record { 0 = k }) (script k) (get_or made.handed.lefts k l) → IsLeftBy MakesItsCalls (record { 0 = k }) (script k) (get_or made.handed.lefts k l)
       by (inl none) = inl none
       by (inr w) =
-          let many = as_many k l below w in
-          inr (record {
-            pass = w.pass;
-            own = w.own;
-            new = w.new;
-            main = w.main;
-            called = record { back = w.called.back; outcome_of = record { as_many = many; calls = w.called.outcome_of.calls many }; left = w.called.left; ending = w.called.ending };
-          })
+          let many = as_many k l below w.0 in
+          let outcome : MakesItsCalls (script k) w.0.given w.0.handed = record { as_many = many; calls = w.0.outcome_of.calls many } in
+          inr (record { given = w.0.given; handed = w.0.handed; own = w.0.own; new = w.0.new; main = w.0.main; outcome_of = outcome; left = w.0.left }, w.1)
 
   -- the report is made of the calls of the scripts
   pub made_of_calls : IsMadeOf MakesItsCalls jobs c

@@ -1,6 +1,6 @@
 -- Lines, and what follows them.
 use Rattle.std.{proofs.{Common.{◌≡◌, ◌≢◌, ◌∙◌, ◌==◌, inl, inr, ℕ, List, [], ◌∷◌, ◌++◌, Bool, true, false, if◌then◌else◌, length, ◌<◌, sym, ap, refl, arith, ◌^◌, codes, Some, None, rules, ◌+◌, ◌≤◌, IsTrue, All, take, get_or}, lemmas.Bool.Decides.nat_tests, lemmas.List.Elements.{All-head, All-tail}, lemmas.List.take_more}, specs.{List.{onto_first, AllByRecursion}, Fmt.decimal, Char.is_ascii_digit, Str.all_ascii_digits}}
-use Rattle.tc_text.{specs.{MoveList.{lines_of, IsMove, Move, behaviours_line, move_line}, Reading.{EndsLine, EndsMove, EndsNumber, EndsReply}, Spelling.{IsOp, move_text, AreComps, IsGroup, IsTarget, args_text, group_text, op_text, target_text}, Inside.NoLow}, proofs.{Operands.{IsThatNumber, ends_nothing}, Lemmas.Digits.{both, digit_first, spelled_digits}}}
+use Rattle.tc_text.{specs.{MoveList.{lines_of, IsMove, Move, behaviours_line, move_line}, Reading.{EndsLine, EndsMove, EndsNumber, EndsReply}, Spelling.{IsOp, move_text, IsGroup, IsTarget, args_text, group_text, op_text, target_text}, Inside.{AreComps, NoLow}}, proofs.{Operands.{IsThatNumber, ends_nothing}, Lemmas.Digits.{both, digit_first, spelled_digits}}}
 use Rattle.tc_entry.specs.{Prelude.{Run, IsBehaviours, name_of, given, UserVerdict, IsName, is_name_byte}, declared.op.Op.Op, declared.comp.Comp.Comp, declared.op.Group.Group, declared.op.Target.Target}
 
 -- no byte is LF
@@ -166,8 +166,7 @@ group_plain Group.All fits = search rules
 
 target_plain : (t : Target) → IsTarget t → NoLf (target_text t)
 target_plain (Target.One c) fits = number_plain c.0 fits
-target_plain Target.Any fits = search rules
-target_plain Target.All fits = search rules
+target_plain _ fits = search rules
 
 args_plain : (cs : List Comp) → AreComps cs → NoLf (args_text cs)
 args_plain [] fits = tt
@@ -175,13 +174,9 @@ args_plain (c ∷ cs) fits = (refl, no_lf-append (decimal c.0) (args_text cs) (n
 
 setting_plain : (v : UserVerdict) → NoLf (name_of (given v))
 setting_plain UserVerdict.None = search rules
-setting_plain UserVerdict.Pass = search rules
-setting_plain UserVerdict.Inconc = search rules
-setting_plain UserVerdict.Fail = search rules
+setting_plain _ = search rules
 
 op_plain : (op : Op) → IsOp op → NoLf (op_text op)
-op_plain (Op.Create false None) fits = search rules
-op_plain (Op.Create true None) fits = search rules
 op_plain (Op.Create false (Some name)) fits = no_lf-append (codes "create named ") name (search rules) (name_plain name fits)
 op_plain (Op.Create true (Some name)) fits = no_lf-append (codes "create alive named ") name (search rules) (name_plain name fits)
 op_plain (Op.Start c run args) fits =
@@ -198,9 +193,7 @@ op_plain (Op.Wait true t) fits = no_lf-append (codes "wait killed ") (target_tex
 op_plain (Op.Wake false t) fits = no_lf-append (codes "wake done ") (target_text t) (search rules) (target_plain t fits)
 op_plain (Op.Wake true t) fits = no_lf-append (codes "wake killed ") (target_text t) (search rules) (target_plain t fits)
 op_plain (Op.SetVerdict v) fits = no_lf-append (codes "setverdict ") (name_of (given v)) (search rules) (setting_plain v)
-op_plain Op.StopCase fits = search rules
-op_plain Op.GetVerdict fits = search rules
-op_plain Op.Finish fits = search rules
+op_plain _ fits = search rules
 
 pub move_plain : (run : ℕ) (op : Op) → run < 2 ^ 16 → IsOp op → NoLf (move_text run op)
 move_plain run op low fits = no_lf-append (decimal run) (codes " " ++ op_text op) (number_plain run (omega arith)) (refl, op_plain op fits)

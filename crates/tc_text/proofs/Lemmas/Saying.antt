@@ -1,6 +1,6 @@
 -- Lines that are said, one after another, and what the parts of a line hold.
 use Rattle.std.{proofs.{Common.{ℕ, ◌≡◌, ◌∙◌, Bool, true, false, if◌then◌else◌, List, [], ◌∷◌, ◌++◌, map, Result, Ok, Err, OnOk, refl, sym, ap, subst, append_assoc}, lemmas.List.append-nil}, specs.{Fmt.decimal, List.flat_map}}
-use Rattle.tc_text.specs.{Inside.part_text, Inside.prose_text, Said.Holds, Said.Line, Said.Tells, Said.TellsLine, Said.as_printable, Said.ends_word, Said.part_words, Said.shown_line, declared.said.Part.Part}
+use Rattle.tc_text.specs.{Inside.{part_text, prose_text, as_printable}, Said.{Holds, Line, Tells, TellsLine, ends_word, part_words, shown_line}, declared.said.Part.Part}
 
 -- ---- what the parts of a line hold
 
@@ -36,8 +36,7 @@ prose_ends t = by_test (ends_word t) refl
 
 part_ends : (p : Part) → ends_word (part_text p) ≡ true
 part_ends (Part.Text t) = prose_ends t.now
-part_ends (Part.Number n) = refl
-part_ends (Part.Word w) = refl
+part_ends _ = refl
 
 part_holds : (p : Part) → Holds (part_words p) (part_text p)
 part_holds (Part.Text t) = tt

@@ -14,15 +14,11 @@ level-worse a b = by_test (nat_lt (level_of a) (level_of b)) a b
 
 same_level : (a b : Verdict) → level_of a ≡ level_of b → a ≡ b
 same_level Verdict.None Verdict.None e = refl
-same_level Verdict.None _ e = absurd cc
 same_level Verdict.Pass Verdict.Pass e = refl
-same_level Verdict.Pass _ e = absurd cc
 same_level Verdict.Inconc Verdict.Inconc e = refl
-same_level Verdict.Inconc _ e = absurd cc
 same_level Verdict.Fail Verdict.Fail e = refl
-same_level Verdict.Fail _ e = absurd cc
 same_level Verdict.Error Verdict.Error e = refl
-same_level Verdict.Error _ e = absurd cc
+same_level _ _ e = absurd cc
 
 larger_later : (w x y : ℕ) → x ≤ y → larger w y ≡ larger (larger w x) y
 larger_later w x y h = grind (arith, nat_tests)
@@ -44,10 +40,7 @@ worse_swap w x y =
 
 pub none_no_worse : (w : Verdict) → worse w Verdict.None ≡ w
 none_no_worse Verdict.None = refl
-none_no_worse Verdict.Pass = refl
-none_no_worse Verdict.Inconc = refl
-none_no_worse Verdict.Fail = refl
-none_no_worse Verdict.Error = refl
+none_no_worse _ = refl
 
 -- a verdict gets no better
 pub worse_left : (a b : Verdict) → level_of a ≤ level_of (worse a b)
@@ -89,10 +82,7 @@ worst_is_member (x ∷ []) h = (0, omega arith, by_none x)
   where
     by_none : (x : Verdict) → get_or (x ∷ []) 0 (worse Verdict.None x) ≡ worse Verdict.None x
     by_none Verdict.None = refl
-    by_none Verdict.Pass = refl
-    by_none Verdict.Inconc = refl
-    by_none Verdict.Fail = refl
-    by_none Verdict.Error = refl
+    by_none _ = refl
 worst_is_member (x ∷ y ∷ ys) h =
     by_test (nat_lt (level_of (worst (y ∷ ys))) (level_of x)) (worst_is_member (y ∷ ys) (λ e. absurd cc))
   where

@@ -1,5 +1,5 @@
 use Rattle.std.proofs.lemmas.Result.{IfErr-weaker}
-use Rattle.tc_answer.proofs.Lemmas.{Chosen.ready, Chosen.unready, Giving.both_ok}
+use Rattle.tc_answer.proofs.Lemmas.{Chosen.{ready, unready}, Giving.both_ok}
 use Rattle.tc_answer.proofs.cases.chosen_cases.Goals as goal
 
 pub returns-clause-chosen : goal.returns-clause-chosen

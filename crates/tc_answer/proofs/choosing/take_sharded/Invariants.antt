@@ -1,5 +1,4 @@
-use Rattle.std.proofs.Common.{◌≡◌, ◌++◌, length}
-use Rattle.std.specs.Vec.Iter.{into_iter_items, into_iter_len}
+use Rattle.std.{proofs.Common.{◌≡◌, ◌++◌, length}, specs.Vec.Iter.{into_iter_items, into_iter_len}}
 use Rattle.tc_answer.specs.Choosing.{placed_in_shard}
 use Rattle.tc_answer.proofs.choosing.take_sharded.Given as goal
 

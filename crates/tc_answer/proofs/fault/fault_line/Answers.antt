@@ -1,6 +1,5 @@
 use Rattle.std.proofs.Common.{◌∙◌, ◌++◌, ap}
-use Rattle.tc_answer.specs.Fault.{said}
-use Rattle.tc_answer.proofs.Splitting.{by_parts}
+use Rattle.tc_answer.{specs.Fault.said, proofs.Splitting.by_parts}
 use Rattle.tc_answer.proofs.fault.fault_line.Goals as goal
 
 pub returns-in-Ok-clause-ok : goal.returns-in-Ok-clause-ok

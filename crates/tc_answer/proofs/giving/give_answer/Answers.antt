@@ -1,7 +1,6 @@
-use Rattle.std.proofs.Common.{inl, inr, refl, subst}
-use Rattle.std.specs.Io.KnownBytes.{Appends}
+use Rattle.std.{proofs.Common.{inl, inr, refl, subst}, specs.Io.KnownBytes.Appends}
 use Rattle.tc_stream.specs.Prelude.{AppendsPrefix}
-use Rattle.tc_answer.specs.{Fault.run_fault_line, Stderr.IsPrintedRefusal, Stderr.IsTold}
+use Rattle.tc_answer.specs.{Fault.run_fault_line, Stderr.{IsPrintedRefusal, IsTold}}
 use Rattle.tc_answer.proofs.giving.give_answer.Goals as goal
 
 pub returns-in-Ok : goal.returns-in-Ok

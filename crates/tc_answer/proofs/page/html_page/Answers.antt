@@ -1,5 +1,5 @@
 use Rattle.std.proofs.Common.{◌∙◌, ◌++◌, ap, append_assoc}
-use Rattle.tc_answer.specs.{Page.held, Page.page_of, declared.head.TheConstants.HEAD, declared.tail.TheConstants.TAIL}
+use Rattle.tc_answer.specs.{Page.{held, page_of}, declared.{head.TheConstants.HEAD, tail.TheConstants.TAIL}}
 use Rattle.tc_answer.proofs.page.html_page.Goals as goal
 
 pub returns : goal.returns

@@ -1,6 +1,5 @@
 use Rattle.std.proofs.Common.{rules, ◌≡◌, ◌&&◌, ◌<◌, length, drop, true, false, arith}
-use Rattle.tc_answer.specs.Input.{begins_block}
-use Rattle.tc_answer.proofs.Splitting.{ends_here, goes_on}
+use Rattle.tc_answer.{specs.Input.begins_block, proofs.Splitting.{ends_here, goes_on}}
 use Rattle.tc_answer.proofs.parts.script_bytes.Goals as goal
 
 pub returns-then-ends_at-clause-is : goal.returns-then-ends_at-clause-is

@@ -1,6 +1,5 @@
 use Rattle.std.proofs.Common.{◌≡◌, ◌≢◌, false, true, refl, subst, sym}
-use Rattle.tc_blocks.specs.declared.header.{Header.Header, Kind.Kind}
-use Rattle.tc_blocks.proofs.Headers.{first_header, first_kind, is_first}
+use Rattle.tc_blocks.{specs.declared.header.{Header.Header, Kind.Kind}, proofs.Headers.{first_header, first_kind, is_first}}
 use Rattle.tc_blocks.proofs.header.take_first_line.Goals as goal
 
 pub returns-in_err-header-clause-only : goal.returns-in_err-header-clause-only

@@ -1,5 +1,4 @@
-use Rattle.std.proofs.Common.{◌∙◌, ◌++◌, ◌∷◌, ap, refl}
-use Rattle.std.specs.Fmt.{decimal}
+use Rattle.std.{proofs.Common.{◌∙◌, ◌++◌, ◌∷◌, ap, refl}, specs.Fmt.decimal}
 use Rattle.tc_text.specs.Prelude.{lines_of}
 use Rattle.tc_blocks.proofs.Headers.{space_ends, begins_with_header, header_spelled, same_header}
 use Rattle.tc_blocks.proofs.header.take_header.Goals as goal

@@ -1,5 +1,4 @@
-use Rattle.std.proofs.Common.{◌≡◌, ◌++◌, take}
-use Rattle.std.specs.List.{flat_map}
+use Rattle.std.{proofs.Common.{◌≡◌, ◌++◌, take}, specs.List.flat_map}
 use Rattle.tc_blocks.specs.HistoryBlock.{entry_line}
 use Rattle.tc_blocks.proofs.history_block.append_entries.Given as goal
 

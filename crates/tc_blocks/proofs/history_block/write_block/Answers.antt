@@ -1,5 +1,4 @@
-use Rattle.std.proofs.Common.{arith}
-use Rattle.std.proofs.lemmas.Grind.{common_steps}
+use Rattle.std.proofs.{Common.arith, lemmas.Grind.common_steps}
 use Rattle.tc_blocks.proofs.history_block.write_block.Goals as goal
 
 pub returns-clause-err : goal.returns-clause-err

@@ -1,6 +1,5 @@
-use Rattle.std.proofs.Common.{◌≡◌, ◌∙◌, ◌++◌, ◌∷◌, false, true, ap, sym, refl, arith}
-use Rattle.std.specs.Fmt.{decimal}
-use Rattle.tc_text.proofs.Lemmas.{LinesOf.same_behind, LinesOf.ends_line}
+use Rattle.std.{proofs.Common.{◌≡◌, ◌∙◌, ◌++◌, ◌∷◌, false, true, ap, sym, refl, arith}, specs.Fmt.decimal}
+use Rattle.tc_text.proofs.Lemmas.LinesOf.{same_behind, ends_line}
 use Rattle.tc_blocks.proofs.{Headers.behind_space, InnerLines.ends_at}
 use Rattle.tc_blocks.proofs.history_header.take_behaviours.Goals as goal
 

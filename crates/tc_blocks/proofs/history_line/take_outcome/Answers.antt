@@ -1,6 +1,5 @@
 use Rattle.std.proofs.Common.{◌≡◌, ◌∙◌, ◌++◌, sym}
-use Rattle.tc_text.specs.Prelude.{reply_text}
-use Rattle.tc_text.proofs.Lemmas.LinesOf.{ends_reply}
+use Rattle.tc_text.{specs.Prelude.reply_text, proofs.Lemmas.LinesOf.ends_reply}
 use Rattle.tc_blocks.proofs.InnerLines.{begins_with_outcome, behind_arrow, ends_at, outcome_spelled, same_lines}
 use Rattle.tc_blocks.proofs.history_line.take_outcome.Goals as goal
 

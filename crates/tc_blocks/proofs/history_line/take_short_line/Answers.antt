@@ -1,7 +1,6 @@
 use Rattle.std.proofs.Common.{◌∙◌, ap}
 use Rattle.tc_text.specs.Prelude.{lines_of, op_of}
-use Rattle.tc_blocks.specs.HistoryText.{short_entry}
-use Rattle.tc_blocks.proofs.InnerLines.{begins_with_move, entry_and_outcome, same_parts, short_unnamed}
+use Rattle.tc_blocks.{specs.HistoryText.short_entry, proofs.InnerLines.{begins_with_move, entry_and_outcome, same_parts, short_unnamed}}
 use Rattle.tc_blocks.proofs.history_line.take_short_line.Goals as goal
 
 pub returns-in_default-clause-only : goal.returns-in_default-clause-only

@@ -1,5 +1,5 @@
 use Rattle.std.proofs.Common.{length}
-use Rattle.tc_blocks.specs.HistoryText.{AreEntries}
+use Rattle.tc_blocks.specs.Inside.{AreEntries}
 use Rattle.tc_blocks.proofs.laws.entries_fit.Given as goal
 
 -- if those that are left fit, all fit

@@ -1,7 +1,6 @@
-use Rattle.std.proofs.Common.{◌∙◌, ◌++◌, ◌∷◌, sym, arith}
-use Rattle.std.specs.Fmt.{decimal}
+use Rattle.std.{proofs.Common.{◌∙◌, ◌++◌, ◌∷◌, sym, arith}, specs.Fmt.decimal}
 use Rattle.tc_text.proofs.Lemmas.LinesOf.{ends_line}
-use Rattle.tc_blocks.proofs.{Headers.behind_space, Headers.space_ends, InnerLines.ends_at, InnerLines.same_lines, Lemmas.Notes.begins_with_naming, Lemmas.Notes.behind_word, Lemmas.Notes.naming_spelled, Lemmas.Notes.same_naming}
+use Rattle.tc_blocks.proofs.{Headers.{behind_space, space_ends}, InnerLines.{ends_at, same_lines}, Lemmas.Notes.{begins_with_naming, behind_word, naming_spelled, same_naming}}
 use Rattle.tc_blocks.proofs.note.take_naming.Goals as goal
 
 pub returns-in_err-rest-clause-only : goal.returns-in_err-rest-clause-only

@@ -1,7 +1,5 @@
-use Rattle.std.proofs.Common.{List, arith}
-use Rattle.std.proofs.lemmas.Result.{IfOk-weaker}
-use Rattle.tc_blocks.specs.{Inside.IsFound, Inside.IsNote, Inside.IsSaidBy, Met.AreMet, declared.line.Line.Line}
-use Rattle.tc_blocks.proofs.NextLines.{note_of_naming, note_of_said}
+use Rattle.std.proofs.{Common.{List, arith}, lemmas.Result.IfOk-weaker}
+use Rattle.tc_blocks.{specs.{Inside.{IsFound, IsNote, IsSaidBy}, Met.AreMet, declared.line.Line.Line}, proofs.NextLines.{note_of_naming, note_of_said}}
 use Rattle.tc_blocks.proofs.note.take_note.Goals as goal
 
 pub returns-in-Some : goal.returns-in-Some

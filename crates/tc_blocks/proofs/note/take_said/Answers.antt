@@ -1,6 +1,5 @@
 use Rattle.std.proofs.Common.{◌∙◌, ◌++◌, sym, arith}
-use Rattle.tc_blocks.specs.Inside.{mark_text}
-use Rattle.tc_blocks.proofs.{InnerLines.ends_at, InnerLines.same_lines, Lemmas.Notes.begins_with_said, Lemmas.Notes.ends_plain, Lemmas.Notes.mark_ends, Lemmas.Notes.said_spelled, Lemmas.Notes.same_plain}
+use Rattle.tc_blocks.{specs.Inside.mark_text, proofs.{InnerLines.{ends_at, same_lines}, Lemmas.Notes.{begins_with_said, ends_plain, mark_ends, said_spelled, same_plain}}}
 use Rattle.tc_blocks.proofs.note.take_said.Goals as goal
 
 pub returns-in_err-run-clause-only : goal.returns-in_err-run-clause-only

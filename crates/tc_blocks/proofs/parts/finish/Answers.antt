@@ -1,6 +1,5 @@
 use Rattle.std.proofs.Common.{◌≡◌, ◌⊎◌, ◌∙◌, is_some, true, inl, inr, sym}
-use Rattle.tc_blocks.specs.Inside.{IsFirst}
-use Rattle.tc_blocks.proofs.{PartByPart.early_if, PartByPart.whole_if, parts.finish.Goals.then-is_some-via-else-is_some+then-line-eq1, parts.finish.Goals.then-is_some-via-then-is_some}
+use Rattle.tc_blocks.{specs.Inside.IsFirst, proofs.{PartByPart.{early_if, whole_if}, parts.finish.Goals.{then-is_some-via-else-is_some+then-line-eq1, then-is_some-via-then-is_some}}}
 use Rattle.tc_blocks.proofs.parts.finish.Goals as goal
 
 pub returns-then-is_some-clause-fault : goal.returns-then-is_some-clause-fault

@@ -1,6 +1,5 @@
 use Rattle.std.proofs.Common.{rules}
-use Rattle.tc_blocks.specs.Inside.{Refuses}
-use Rattle.tc_blocks.proofs.PartByPart.{gone_more, refused_more}
+use Rattle.tc_blocks.{specs.Inside.Refuses, proofs.PartByPart.{gone_more, refused_more}}
 use Rattle.tc_blocks.proofs.parts.take_part.Goals as goal
 
 pub loop-rest-preserved : goal.loop-rest-preserved

@@ -1,6 +1,5 @@
 use Rattle.std.proofs.Common.{length}
-use Rattle.tc_blocks.specs.Inside.{IsKnown}
-use Rattle.tc_blocks.proofs.PartByPart.{IsGoneOn}
+use Rattle.tc_blocks.{specs.Inside.IsKnown, proofs.PartByPart.IsGoneOn}
 use Rattle.tc_blocks.proofs.parts.take_part.Given as goal
 
 abbrev pub invariant-loop-rest : goal.invariant-loop-rest

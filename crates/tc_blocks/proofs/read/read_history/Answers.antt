@@ -1,7 +1,6 @@
 use Rattle.std.proofs.Common.{◌≡◌, ◌∙◌, map, ap, sym, rules}
 use Rattle.tc_text.specs.declared.fault.TextFault.{TextFault}
-use Rattle.tc_blocks.specs.{Histories.IsHistoryHeader, Laws.history_of, Text.IsFault}
-use Rattle.tc_blocks.proofs.PartByPart.{fault_only}
+use Rattle.tc_blocks.{specs.{Histories.IsHistoryHeader, Laws.history_of, Text.IsFault}, proofs.PartByPart.fault_only}
 use Rattle.tc_blocks.proofs.read.read_history.Goals as goal
 
 pub returns-in_err-blocks-clause-fault : goal.returns-in_err-blocks-clause-fault

@@ -1,6 +1,5 @@
 use Rattle.std.proofs.Common.{rules}
-use Rattle.tc_blocks.specs.{Inside.IsFirst, Text.IsFault}
-use Rattle.tc_blocks.proofs.PartByPart.{refused_whole}
+use Rattle.tc_blocks.{specs.{Inside.IsFirst, Text.IsFault}, proofs.PartByPart.refused_whole}
 use Rattle.tc_blocks.proofs.read.read_into.Goals as goal
 
 pub returns-in_err-take_part-clause-fault : goal.returns-in_err-take_part-clause-fault

@@ -1,6 +1,5 @@
 use Rattle.std.proofs.Common.{arith}
-use Rattle.tc_blocks.specs.declared.line.Line.{Line}
-use Rattle.tc_blocks.proofs.NextLines.{entry_next}
+use Rattle.tc_blocks.{specs.declared.line.Line.Line, proofs.NextLines.entry_next}
 use Rattle.tc_blocks.proofs.read.take_any_line.Goals as goal
 
 pub take_other-requires-clause-no_entry : goal.take_other-requires-clause-no_entry

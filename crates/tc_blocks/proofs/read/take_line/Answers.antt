@@ -1,6 +1,5 @@
 use Rattle.std.proofs.Common.{arith}
-use Rattle.tc_blocks.specs.{HistoryText.short_entry, Text.format_of, declared.line.Line.Line}
-use Rattle.tc_blocks.proofs.NextLines.{entry_next}
+use Rattle.tc_blocks.{specs.{HistoryText.short_entry, Text.format_of, declared.line.Line.Line}, proofs.NextLines.entry_next}
 use Rattle.tc_blocks.proofs.read.take_line.Goals as goal
 
 pub returns : goal.returns

@@ -1,5 +1,4 @@
-use Rattle.std.proofs.Common.{◌<◌, length, arith}
-use Rattle.std.proofs.lemmas.Grind.{common_steps}
+use Rattle.std.proofs.{Common.{◌<◌, length, arith}, lemmas.Grind.common_steps}
 use Rattle.tc_text.proofs.Lemmas.LinesOf.{not_empty}
 use Rattle.tc_blocks.proofs.InsideLines.{bad_inside, on_more, on_none}
 use Rattle.tc_blocks.proofs.read.take_lines.Goals as goal

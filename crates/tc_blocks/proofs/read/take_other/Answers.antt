@@ -1,8 +1,5 @@
-use Rattle.std.proofs.Common.{List, subst, sym}
-use Rattle.std.proofs.lemmas.Result.{IfOk-weaker}
-use Rattle.std.specs.Result.{IfOk}
-use Rattle.tc_blocks.specs.{Inside.IsFound, Inside.IsNoEntryLine, Inside.IsNote, Met.AreMet, Text.IsLine, Text.format_of, declared.header.Kind.Kind, declared.line.Line.Line}
-use Rattle.tc_blocks.proofs.NextLines.{line_of_note}
+use Rattle.std.{proofs.{Common.{List, subst, sym}, lemmas.Result.IfOk-weaker}, specs.Result.IfOk}
+use Rattle.tc_blocks.{specs.{Inside.{IsFound, IsNoEntryLine, IsNote}, Met.AreMet, Text.{IsLine, format_of}, declared.{header.Kind.Kind, line.Line.Line}}, proofs.NextLines.line_of_note}
 use Rattle.tc_blocks.proofs.read.take_other.Goals as goal
 
 pub returns-in-Evidence : goal.returns-in-Evidence

@@ -1,6 +1,5 @@
 use Rattle.std.proofs.Common.{◌∙◌, List, [], ℕ, subst}
-use Rattle.tc_blocks.specs.Inside.{GoesOn, Refuses}
-use Rattle.tc_blocks.proofs.Unfinished.{end_read, end_refused, finished}
+use Rattle.tc_blocks.{specs.Inside.{GoesOn, Refuses}, proofs.Unfinished.{end_read, end_refused, finished}}
 use Rattle.tc_blocks.proofs.source.finish_bytes.Goals as goal
 
 pub returns-in-Ok : goal.returns-in-Ok

@@ -1,6 +1,5 @@
 use Rattle.std.proofs.Common.{◌<◌, ◌++◌, ◌∙◌, ap, arith, rules}
-use Rattle.tc_blocks.specs.Inside.{RefusesPart}
-use Rattle.tc_blocks.proofs.Unfinished.{part_refused, part_taken}
+use Rattle.tc_blocks.{specs.Inside.RefusesPart, proofs.Unfinished.{part_refused, part_taken}}
 use Rattle.tc_blocks.proofs.source.take_bytes.Goals as goal
 
 pub returns-in_err-take_part-clause-fault : goal.returns-in_err-take_part-clause-fault

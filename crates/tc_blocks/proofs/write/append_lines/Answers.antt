@@ -1,7 +1,5 @@
-use Rattle.std.proofs.Common.{rules, refl, ◌++◌, take}
-use Rattle.std.specs.{Io.StartsWith, List.flat_map}
-use Rattle.tc_blocks.specs.{Block.with_lf, Line.line_text}
-use Rattle.tc_blocks.proofs.Unfinished.{starts_before}
+use Rattle.std.{proofs.Common.{rules, refl, ◌++◌, take}, specs.{Io.StartsWith, List.flat_map}}
+use Rattle.tc_blocks.{specs.{Block.with_lf, Line.line_text}, proofs.Unfinished.starts_before}
 use Rattle.tc_blocks.proofs.write.append_lines.Goals as goal
 
 pub returns-in_err-append_line-clause-err : goal.returns-in_err-append_line-clause-err

@@ -1,5 +1,4 @@
-use Rattle.std.proofs.Common.{◌≡◌, ◌++◌, take}
-use Rattle.std.specs.List.{flat_map}
+use Rattle.std.{proofs.Common.{◌≡◌, ◌++◌, take}, specs.List.flat_map}
 use Rattle.tc_blocks.specs.{Block.with_lf, Line.line_text}
 use Rattle.tc_blocks.proofs.write.append_lines.Given as goal
 

@@ -1,5 +1,5 @@
 use Rattle.std.proofs.{Common.{◌≡◌, ◌<◌, ◌++◌, ◌∷◌, ◌∙◌, [], All, length, map, ap, arith}, lemmas.List.{length-set, map-append}}
-use Rattle.tc_book.{specs.Closing.run_log, proofs.ByRun.{after_none, after_last, within_before, within_last}}
+use Rattle.tc_book.{specs.Inside.run_log, proofs.ByRun.{after_none, after_last, within_before, within_last}}
 use Rattle.tc_book.proofs.parts.logs_by_run.Goals as goal
 
 pub loop-left-init : goal.loop-left-init

@@ -1,6 +1,6 @@
 use Rattle.std.{proofs.Common.{◌≡◌, ◌<◌, length, map}, specs.List.All}
 use Rattle.tc_rules.specs.Prelude.{log_of}
-use Rattle.tc_book.{specs.Closing.run_log, proofs.ByRun.HasAfter}
+use Rattle.tc_book.{specs.Inside.run_log, proofs.ByRun.HasAfter}
 use Rattle.tc_book.proofs.parts.logs_by_run.Given as goal
 
 abbrev pub invariant-loop-left : goal.invariant-loop-left

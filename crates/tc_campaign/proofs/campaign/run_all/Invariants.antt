@@ -1,5 +1,4 @@
-use Rattle.std.proofs.Common.{◌≡◌, length}
-use Rattle.std.specs.Vec.Iter.{into_iter_items, into_iter_len}
+use Rattle.std.{proofs.Common.{◌≡◌, length}, specs.Vec.Iter.{into_iter_items, into_iter_len}}
 use Rattle.tc_campaign.specs.Inside.{IsGoing}
 use Rattle.tc_campaign.proofs.campaign.run_all.Given as goal
 

@@ -1,9 +1,6 @@
-use Rattle.std.proofs.Common.{◌≤◌, length, arith, subst}
-use Rattle.std.specs.Prelude.{IfNone}
-use Rattle.std.specs.Vec.{vec_capacity}
+use Rattle.std.{proofs.Common.{◌≤◌, length, arith, subst}, specs.{Prelude.IfNone, Vec.vec_capacity}}
 use Rattle.tc_report.specs.Prelude.{Keeps}
-use Rattle.tc_campaign.specs.Campaign.{IsCutShort}
-use Rattle.tc_campaign.proofs.Lemmas.Keeping.{kept_run, not_cut}
+use Rattle.tc_campaign.{specs.Campaign.IsCutShort, proofs.Lemmas.Keeping.{kept_run, not_cut}}
 use Rattle.tc_campaign.proofs.campaign.run_kept.Goals as goal
 
 pub unreachable-requires : goal.unreachable-requires

@@ -1,9 +1,6 @@
-use Rattle.std.proofs.Common.{◌≡◌, ◌∙◌, ap, codes}
-use Rattle.std.proofs.lemmas.Result.{IfOk-weaker}
-use Rattle.clap.specs.Words.{app_of, new_app}
-use Rattle.clap.specs.Simple.{app_of_fields}
-use Rattle.tc_command.specs.Command.{with_version}
-use Rattle.tc_command.proofs.Growing.{grown}
+use Rattle.std.proofs.{Common.{◌≡◌, ◌∙◌, ap, codes}, lemmas.Result.IfOk-weaker}
+use Rattle.clap.specs.{Words.{app_of, new_app}, Simple.app_of_fields}
+use Rattle.tc_command.{specs.Command.with_version, proofs.Growing.grown}
 use Rattle.tc_command.proofs.cases.cases_command.Goals as goal
 
 pub returns : goal.returns

@@ -1,7 +1,6 @@
 use Rattle.std.proofs.Common.{◌≡◌, List, [], ap, false, map, refl, string_bytes, sym}
 use Rattle.clap.specs.Words.{Row, fault_of, found_of, is_simple, is_simple_and_free, matches_of, rows_of}
-use Rattle.tc_command.specs.{Command.cases_app, declared.command.Subcommand.Subcommand}
-use Rattle.tc_command.proofs.Refusals.{carried, fails_so, parse_refuses, refusal_read, task_read}
+use Rattle.tc_command.{specs.{Command.cases_app, declared.command.Subcommand.Subcommand}, proofs.Refusals.{carried, fails_so, parse_refuses, refusal_read, task_read}}
 use Rattle.tc_command.proofs.cases.read_by.Goals as goal
 
 pub returns-in_err-matches : goal.returns-in_err-matches

@@ -1,8 +1,5 @@
-use Rattle.std.proofs.Common.{◌≡◌, ◌∙◌, ap, false}
-use Rattle.std.proofs.lemmas.Result.{IfOk-weaker}
-use Rattle.clap.specs.Words.{app_of, new_app}
-use Rattle.clap.specs.Simple.{app_of_fields}
-use Rattle.clap.specs.declared.builder.command.Command.TheViews.{out-Command}
+use Rattle.std.proofs.{Common.{◌≡◌, ◌∙◌, ap, false}, lemmas.Result.IfOk-weaker}
+use Rattle.clap.specs.{Words.{app_of, new_app}, Simple.app_of_fields, declared.builder.command.Command.TheViews.out-Command}
 use Rattle.tc_command.proofs.Growing.{grown}
 use Rattle.tc_command.proofs.command.offered.Goals as goal
 

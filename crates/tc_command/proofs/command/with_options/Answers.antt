@@ -1,6 +1,5 @@
 use Rattle.std.proofs.Common.{◌∙◌, ◌+◌, ap, drop, sym}
-use Rattle.tc_command.specs.Inside.{with_rows}
-use Rattle.tc_command.proofs.Growing.{grows_by_one, next_row}
+use Rattle.tc_command.{specs.Inside.with_rows, proofs.Growing.{grows_by_one, next_row}}
 use Rattle.tc_command.proofs.command.with_options.Goals as goal
 
 pub loop-row-preserved : goal.loop-row-preserved

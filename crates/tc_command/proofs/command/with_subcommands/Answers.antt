@@ -1,6 +1,5 @@
 use Rattle.std.proofs.Common.{◌∙◌, ◌+◌, ap, drop, sym}
-use Rattle.tc_command.specs.Inside.{with_each}
-use Rattle.tc_command.proofs.Growing.{next_subcommand}
+use Rattle.tc_command.{specs.Inside.with_each, proofs.Growing.next_subcommand}
 use Rattle.tc_command.proofs.command.with_subcommands.Goals as goal
 
 pub loop-subcommand-preserved : goal.loop-subcommand-preserved

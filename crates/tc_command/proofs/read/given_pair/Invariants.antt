@@ -1,5 +1,4 @@
-use Rattle.std.proofs.Common.{◌≡◌, false, take}
-use Rattle.std.specs.List.{list_any}
+use Rattle.std.{proofs.Common.{◌≡◌, false, take}, specs.List.list_any}
 use Rattle.clap.specs.Words.{found_of, rows_of}
 use Rattle.tc_command.specs.Asked.{gives_pair}
 use Rattle.tc_command.proofs.read.given_pair.Given as goal

@@ -1,8 +1,7 @@
 use Rattle.std.proofs.Common.{◌≡◌, All, IfErr, OnOk, codes, map, rules, subst}
 use Rattle.clap.specs.Words.{found_of, rows_of}
 use Rattle.tc_entry.specs.Prelude.{IsPattern}
-use Rattle.tc_command.specs.{Asked.option_values, Inside.IsBadWord, declared.word.WordFault.WordFault}
-use Rattle.tc_command.proofs.Options.{words_are}
+use Rattle.tc_command.{specs.{Asked.option_values, Inside.IsBadWord, declared.word.WordFault.WordFault}, proofs.Options.words_are}
 use Rattle.tc_command.proofs.read.patterns.Goals as goal
 
 pub returns-in_ok-words-in-Some-clause-refused : goal.returns-in_ok-words-in-Some-clause-refused

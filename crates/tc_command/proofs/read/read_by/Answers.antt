@@ -1,7 +1,6 @@
 use Rattle.std.proofs.Common.{◌≡◌, [], ap, map, refl, string_bytes, sym}
 use Rattle.clap.specs.Words.{fault_of, is_simple, is_simple_and_free, subcommand_of, subcommand_rows_of}
-use Rattle.tc_command.specs.{Asked.command_line_of, Command.ttrun}
-use Rattle.tc_command.proofs.Refusals.{carried, fails_so, parse_refuses, refusal_read, task_read}
+use Rattle.tc_command.{specs.{Asked.command_line_of, Command.ttrun}, proofs.Refusals.{carried, fails_so, parse_refuses, refusal_read, task_read}}
 use Rattle.tc_command.proofs.read.read_by.Goals as goal
 
 pub returns-in_err-matches : goal.returns-in_err-matches

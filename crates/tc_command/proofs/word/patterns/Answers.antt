@@ -1,7 +1,5 @@
-use Rattle.std.proofs.Common.{◌∙◌, ◌++◌, ◌∷◌, [], ap, map, refl, sym, take}
-use Rattle.std.specs.Borrow.{Bor}
+use Rattle.std.{proofs.{Common.{◌∙◌, ◌++◌, ◌∷◌, [], ap, map, refl, sym, take}, lemmas.Bool.false≢true}, specs.Borrow.Bor}
 use Rattle.clap.specs.Walk.{Text}
-use Rattle.std.proofs.lemmas.Bool.{false≢true}
 use Rattle.tc_command.proofs.Options.{name_at, names_more, words_more}
 use Rattle.tc_command.proofs.word.patterns.Goals as goal
 

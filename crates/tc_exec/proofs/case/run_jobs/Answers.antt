@@ -1,5 +1,4 @@
-use Rattle.std.proofs.Common.{◌≡◌, ◌∷◌, arith, inr, subst}
-use Rattle.std.proofs.lemmas.Grind.{common_steps}
+use Rattle.std.proofs.{Common.{◌≡◌, ◌∷◌, arith, inr, subst}, lemmas.Grind.common_steps}
 use Rattle.tc_exec.specs.{Case.IsOutOfMemory, Inside.jobs_of}
 use Rattle.tc_exec.proofs.case.run_jobs.Goals as goal
 

@@ -1,6 +1,5 @@
 use Rattle.std.proofs.Common.{◌∷◌}
-use Rattle.tc_exec.specs.Inside.{jobs_of, runs_of}
-use Rattle.tc_exec.proofs.Lemmas.Calls.{numbered, out_of_memory, report_called, report_made, torn_handed}
+use Rattle.tc_exec.{specs.Inside.{jobs_of, runs_of}, proofs.Lemmas.Calls.{numbered, out_of_memory, report_called, report_made, torn_handed}}
 use Rattle.tc_exec.proofs.case.run_made.Goals as goal
 
 pub returns-clause-made : goal.returns-clause-made

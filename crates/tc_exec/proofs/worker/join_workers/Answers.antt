@@ -1,5 +1,5 @@
 use Rattle.std.proofs.Common.{[], ◌∷◌, ◌++◌, refl, rules, arith}
-use Rattle.tc_exec.proofs.{Lemmas.Calls.first_kept, Lemmas.Calls.joined, Lemmas.Calls.joined_none, Lists.passed}
+use Rattle.tc_exec.proofs.{Lemmas.Calls.{first_kept, joined, joined_none}, Lists.passed}
 use Rattle.tc_exec.proofs.worker.join_workers.Goals as goal
 
 pub loop-worker-init : goal.loop-worker-init

@@ -1,5 +1,4 @@
-use Rattle.std.proofs.Common.{List, ◌≡◌, ◌<◌, ◌≤◌, ◌+◌, ◌++◌, length, get_or}
-use Rattle.std.specs.Vec.{Iter.into_iter_items, Iter.into_iter_len, vec_capacity, vec_len}
+use Rattle.std.{proofs.Common.{List, ◌≡◌, ◌<◌, ◌≤◌, ◌+◌, ◌++◌, length, get_or}, specs.Vec.{Iter.{into_iter_items, into_iter_len}, vec_capacity, vec_len}}
 use Rattle.tc_book.specs.Prelude.{LeftState}
 use Rattle.tc_exec.specs.Inside.{GathersMore, jobs_of, runs_of}
 use Rattle.tc_exec.proofs.worker.join_workers.Given as goal

@@ -1,8 +1,5 @@
-use Rattle.std.proofs.Common.{rules, arith, ◌≡◌, ◌∙◌, [], ◌∷◌, ap, length, subst}
-use Rattle.std.proofs.lemmas.List.{length-append}
-use Rattle.std.specs.Vec.{vec_len}
-use Rattle.tc_exec.specs.Gates.{IsPassed}
-use Rattle.tc_exec.proofs.{Gates.next_above, Gates.passed_more, Gates.stopped_at, Lists.moved}
+use Rattle.std.{proofs.{Common.{rules, arith, ◌≡◌, ◌∙◌, [], ◌∷◌, ap, length, subst}, lemmas.List.length-append}, specs.Vec.vec_len}
+use Rattle.tc_exec.{specs.Gates.IsPassed, proofs.{Gates.{next_above, passed_more, stopped_at}, Lists.moved}}
 use Rattle.tc_exec.proofs.worker.make_workers.Goals as goal
 
 pub loop-behaviour-preserved : goal.loop-behaviour-preserved

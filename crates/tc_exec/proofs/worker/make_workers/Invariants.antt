@@ -1,5 +1,4 @@
-use Rattle.std.proofs.Common.{◌≡◌, ◌≤◌, ◌+◌, ◌++◌, length, map}
-use Rattle.std.specs.Vec.{Iter.into_iter_items, Iter.into_iter_len, vec_capacity, vec_len}
+use Rattle.std.{proofs.Common.{◌≡◌, ◌≤◌, ◌+◌, ◌++◌, length, map}, specs.Vec.{Iter.{into_iter_items, into_iter_len}, vec_capacity, vec_len}}
 use Rattle.tc_exec.specs.Gates.{IsPassed}
 use Rattle.tc_exec.proofs.worker.make_workers.Given as goal
 

@@ -1,6 +1,6 @@
 use Rattle.std.proofs.Common.{◌≤◌}
 use Rattle.tc_rules.specs.Prelude.{level_of}
-use Rattle.tc_explore.specs.{Found.AreAllMet, Inside.Seen.AreFoundAbove, Inside.Seen.IsNoted}
+use Rattle.tc_explore.specs.{Found.AreAllMet, Inside.Seen.{AreFoundAbove, IsNoted}}
 use Rattle.tc_explore.proofs.aims.search_by_aims.Given as goal
 
 abbrev pub invariant-loop-extent : goal.invariant-loop-extent

@@ -1,5 +1,4 @@
-use Rattle.std.proofs.Common.{arith}
-use Rattle.std.proofs.lemmas.List.Sorted.{length_permutation}
+use Rattle.std.proofs.{Common.arith, lemmas.List.Sorted.length_permutation}
 use Rattle.tc_explore.proofs.Noting.{noted_moved, covered_moved, all_found_moved, from_best}
 use Rattle.tc_explore.proofs.aims.search_verdicts.Goals as goal
 

@@ -1,5 +1,5 @@
 use Rattle.tc_rules.specs.Prelude.{past_of}
-use Rattle.tc_explore.specs.Inside.{Seen.IsOpen, Seen.StandsOn, Simulation.IsWithin}
+use Rattle.tc_explore.specs.Inside.{Seen.{IsOpen, StandsOn}, Simulation.IsWithin}
 use Rattle.tc_explore.proofs.calm.calmed.Given as goal
 
 abbrev pub invariant-loop : goal.invariant-loop

@@ -1,5 +1,5 @@
 use Rattle.std.proofs.Common.{rules, ◌≡◌, ◌+◌, false}
-use Rattle.tc_explore.proofs.{Keeping.AreCalmAfter, Keeping.calm_more, Searching.stands_then, calm.calmed_once.Goals.else-went_on, calm.calmed_once.Goals.then-went_on}
+use Rattle.tc_explore.proofs.{Keeping.{AreCalmAfter, calm_more}, Searching.stands_then, calm.calmed_once.Goals.{else-went_on, then-went_on}}
 use Rattle.tc_explore.proofs.calm.calmed_once.Goals as goal
 
 pub loop-run-preserved : goal.loop-run-preserved

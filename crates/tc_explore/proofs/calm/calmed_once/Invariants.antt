@@ -1,7 +1,6 @@
 use Rattle.std.proofs.Common.{◌≡◌, false}
 use Rattle.tc_rules.specs.Prelude.{past_of}
-use Rattle.tc_explore.specs.Inside.{Seen.IsOpen, Seen.StandsOn, Simulation.IsWithin}
-use Rattle.tc_explore.proofs.Keeping.{AreCalmAfter}
+use Rattle.tc_explore.{specs.Inside.{Seen.{IsOpen, StandsOn}, Simulation.IsWithin}, proofs.Keeping.AreCalmAfter}
 use Rattle.tc_explore.proofs.calm.calmed_once.Given as goal
 
 abbrev pub invariant-loop-run : goal.invariant-loop-run

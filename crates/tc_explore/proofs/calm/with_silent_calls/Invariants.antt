@@ -1,6 +1,6 @@
 use Rattle.std.proofs.Common.{◌≡◌, false}
 use Rattle.tc_rules.specs.Prelude.{past_of}
-use Rattle.tc_explore.specs.Inside.{Seen.IsOpen, Seen.StandsOn, Simulation.IsWithin}
+use Rattle.tc_explore.specs.Inside.{Seen.{IsOpen, StandsOn}, Simulation.IsWithin}
 use Rattle.tc_explore.proofs.calm.with_silent_calls.Given as goal
 
 abbrev pub invariant-loop : goal.invariant-loop

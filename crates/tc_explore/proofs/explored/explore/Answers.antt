@@ -1,6 +1,5 @@
 use Rattle.std.proofs.Common.{◌∙◌, refl, sym, subst}
-use Rattle.tc_explore.specs.Found.{AreFromBest}
-use Rattle.tc_explore.proofs.{Kept.met_none, Noting.best_none, Noting.witnesses_legal}
+use Rattle.tc_explore.{specs.Found.AreFromBest, proofs.{Kept.met_none, Noting.{best_none, witnesses_legal}}}
 use Rattle.tc_explore.proofs.explored.explore.Goals as goal
 
 pub returns-clause-legal : goal.returns-clause-legal

@@ -1,5 +1,4 @@
-use Rattle.std.proofs.Common.{rules, ◌≡◌, length, replicate}
-use Rattle.std.proofs.lemmas.List.Elements.{All-nil}
+use Rattle.std.proofs.{Common.{rules, ◌≡◌, length, replicate}, lemmas.List.Elements.All-nil}
 use Rattle.tc_explore.proofs.{Kept.reached_none, Noting.noted_none}
 use Rattle.tc_explore.proofs.findings.no_findings.Goals as goal
 

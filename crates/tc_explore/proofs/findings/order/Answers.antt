@@ -1,5 +1,4 @@
-use Rattle.std.proofs.Common.{rules}
-use Rattle.std.proofs.lemmas.List.Sorted.{IsNonDecreasingBy-from_sort_by_key}
+use Rattle.std.proofs.{Common.rules, lemmas.List.Sorted.IsNonDecreasingBy-from_sort_by_key}
 use Rattle.tc_rules.specs.Prelude.{level_of}
 use Rattle.tc_course.specs.declared.witness.Witness.{Witness}
 use Rattle.tc_explore.proofs.findings.order.Goals as goal

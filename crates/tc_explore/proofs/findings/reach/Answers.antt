@@ -1,8 +1,6 @@
-use Rattle.std.proofs.Common.{rules, ◌≡◌, ◌<◌, ◌+◌, max, length, set, get_or, ap, sym, subst, ◌∙◌, arith}
-use Rattle.std.proofs.lemmas.List.{get_or_read}
+use Rattle.std.proofs.{Common.{rules, ◌≡◌, ◌<◌, ◌+◌, max, length, set, get_or, ap, sym, subst, ◌∙◌, arith}, lemmas.List.get_or_read}
 use Rattle.tc_rules.specs.Prelude.{past_of}
-use Rattle.tc_explore.specs.Inside.Seen.{IsCountedTo}
-use Rattle.tc_explore.proofs.Kept.{counted_more}
+use Rattle.tc_explore.{specs.Inside.Seen.IsCountedTo, proofs.Kept.counted_more}
 use Rattle.tc_explore.proofs.findings.reach.Goals as goal
 
 pub loop-run-preserved : goal.loop-run-preserved

@@ -1,8 +1,6 @@
-use Rattle.std.proofs.Common.{rules, ◌≡◌, ◌∙◌, false, reverse, ap, sym, subst}
-use Rattle.std.proofs.lemmas.List.Elements.{All-push}
+use Rattle.std.proofs.{Common.{rules, ◌≡◌, ◌∙◌, false, reverse, ap, sym, subst}, lemmas.List.Elements.All-push}
 use Rattle.tc_course.specs.Prelude.{is_found}
-use Rattle.tc_explore.specs.Found.{Covers}
-use Rattle.tc_explore.proofs.{Kept.covered_more, Kept.no_less_then, Noting.noted_more}
+use Rattle.tc_explore.{specs.Found.Covers, proofs.{Kept.{covered_more, no_less_then}, Noting.noted_more}}
 use Rattle.tc_explore.proofs.noted.note.Goals as goal
 
 pub returns-clause-found : goal.returns-clause-found

@@ -1,7 +1,6 @@
 use Rattle.tc_rules.specs.Prelude.{past_of}
 use Rattle.tc_course.specs.Prelude.{IsOn}
-use Rattle.tc_explore.specs.Inside.Seen.{AreHeld}
-use Rattle.tc_explore.proofs.Parking.{AreParked}
+use Rattle.tc_explore.{specs.Inside.Seen.AreHeld, proofs.Parking.AreParked}
 use Rattle.tc_explore.proofs.noted.with_stuck.Given as goal
 
 abbrev pub invariant-loop-run : goal.invariant-loop-run

@@ -1,6 +1,5 @@
 use Rattle.std.proofs.Common.{rules, ◌≡◌, ◌+◌, ◌<◌, ◌≤◌, ℕ, true, false, length, arith, ◌∙◌}
-use Rattle.tc_explore.specs.Inside.Seen.{IsClosedAt, IsFull}
-use Rattle.tc_explore.proofs.{Closed.full_longer, Closed.longer_then, Kept.no_less_then, States.closed_at, States.closed_ats_all, States.closed_ats_more, search.expand_all.Goals.else-is_closed, search.expand_all.Goals.then-is_closed}
+use Rattle.tc_explore.{specs.Inside.Seen.{IsClosedAt, IsFull}, proofs.{Closed.{full_longer, longer_then}, Kept.no_less_then, States.{closed_at, closed_ats_all, closed_ats_more}, search.expand_all.Goals.{else-is_closed, then-is_closed}}}
 use Rattle.tc_explore.proofs.search.expand_all.Goals as goal
 
 pub loop-at-preserved : goal.loop-at-preserved

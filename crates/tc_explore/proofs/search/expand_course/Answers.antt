@@ -1,8 +1,7 @@
 use Rattle.std.proofs.Common.{rules, ◌≡◌, ◌<◌, ◌∙◌, ◌+◌, arith, true, false, reverse, ap, sym, subst}
 use Rattle.tc_rules.specs.Prelude.{past_of, Verdict}
 use Rattle.tc_course.specs.Prelude.{carried_on, is_found}
-use Rattle.tc_explore.specs.Inside.Seen.{AreHeld}
-use Rattle.tc_explore.proofs.{Parking.held_if, Parking.never_held, Parking.reached_main, States.closed_better, States.closed_error, States.closed_going, States.closed_stuck}
+use Rattle.tc_explore.{specs.Inside.Seen.AreHeld, proofs.{Parking.{held_if, never_held, reached_main}, States.{closed_better, closed_error, closed_going, closed_stuck}}}
 use Rattle.tc_explore.proofs.search.expand_course.Goals as goal
 
 pub returns-then-tried-clause-closed : goal.returns-then-tried-clause-closed

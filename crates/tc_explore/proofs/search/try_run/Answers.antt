@@ -1,6 +1,6 @@
 use Rattle.std.proofs.Common.{rules, ◌≡◌, true}
-use Rattle.tc_rules.specs.Prelude.{past_of, answer}
-use Rattle.tc_course.specs.Prelude.{goes_on, IsTurn, entry_made}
+use Rattle.tc_rules.specs.Prelude.{past_of, answer, entry_made}
+use Rattle.tc_course.specs.Prelude.{goes_on, IsTurn}
 use Rattle.tc_explore.proofs.Closed.{run_closed}
 use Rattle.tc_explore.proofs.search.try_run.Goals as goal
 

@@ -1,7 +1,6 @@
 use Rattle.std.proofs.Common.{rules, ◌∙◌, ◌≡◌, ◌+◌, ◌<◌, ℕ, true, false}
 use Rattle.tc_rules.specs.Prelude.{past_of}
-use Rattle.tc_explore.specs.Inside.{Seen.AreStill, Seen.IsFull, Seen.IsRunClosed, Simulation.GoesOn}
-use Rattle.tc_explore.proofs.{Closed.full_longer, Closed.longer_then, Closed.runs_more, Closed.still_more, Kept.no_less_then, search.try_runs.Goals.else-goes_on, search.try_runs.Goals.else-is_closed, search.try_runs.Goals.then-goes_on, search.try_runs.Goals.then-is_closed}
+use Rattle.tc_explore.{specs.Inside.{Seen.{AreStill, IsFull, IsRunClosed}, Simulation.GoesOn}, proofs.{Closed.{full_longer, longer_then, runs_more, still_more}, Kept.no_less_then, search.try_runs.Goals.{else-goes_on, else-is_closed, then-goes_on, then-is_closed}}}
 use Rattle.tc_explore.proofs.search.try_runs.Goals as goal
 
 pub loop-run-preserved : goal.loop-run-preserved

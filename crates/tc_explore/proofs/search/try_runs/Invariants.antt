@@ -1,6 +1,6 @@
 use Rattle.std.proofs.Common.{◌≡◌, ◌<◌, ℕ, true, false}
 use Rattle.tc_rules.specs.Prelude.{past_of}
-use Rattle.tc_explore.specs.Inside.{Seen.AreKept, Seen.AreStill, Seen.IsFull, Seen.IsLonger, Seen.IsNoLess, Seen.IsNoted, Seen.IsRunClosed, Simulation.GoesOn}
+use Rattle.tc_explore.specs.Inside.{Seen.{AreKept, AreStill, IsFull, IsLonger, IsNoLess, IsNoted, IsRunClosed}, Simulation.GoesOn}
 use Rattle.tc_explore.proofs.search.try_runs.Given as goal
 
 abbrev pub invariant-loop-run : goal.invariant-loop-run

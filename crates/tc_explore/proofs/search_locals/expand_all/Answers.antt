@@ -1,6 +1,5 @@
 use Rattle.std.proofs.Common.{rules, ◌≡◌, ◌+◌, ◌<◌, ◌≤◌, ℕ, true, false, length, arith, ◌∙◌}
-use Rattle.tc_explore.specs.Inside.{Seen.IsFull, Twins.IsLocalsAt}
-use Rattle.tc_explore.proofs.{Closed.full_longer, Closed.longer_then, LocalsClosed.going_at, LocalsClosed.locals_at, LocalsClosed.locals_ats_all, LocalsClosed.locals_ats_more, search_locals.expand_all.Goals.else-is_closed, search_locals.expand_all.Goals.then-is_closed}
+use Rattle.tc_explore.{specs.Inside.{Seen.IsFull, Twins.IsLocalsAt}, proofs.{Closed.{full_longer, longer_then}, LocalsClosed.{going_at, locals_at, locals_ats_all, locals_ats_more}, search_locals.expand_all.Goals.{else-is_closed, then-is_closed}}}
 use Rattle.tc_explore.proofs.search_locals.expand_all.Goals as goal
 
 pub loop-at-preserved : goal.loop-at-preserved

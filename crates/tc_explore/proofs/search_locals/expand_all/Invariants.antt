@@ -1,5 +1,5 @@
 use Rattle.std.proofs.Common.{◌≡◌, ◌<◌, ℕ, true, false}
-use Rattle.tc_explore.specs.{Found.AreLocals, Inside.Seen.IsFull, Inside.Seen.IsLonger, Inside.Twins.AreGoing, Inside.Twins.IsLocalsAt}
+use Rattle.tc_explore.specs.{Found.AreLocals, Inside.{Seen.{IsFull, IsLonger}, Twins.{AreGoing, IsLocalsAt}}}
 use Rattle.tc_explore.proofs.search_locals.expand_all.Given as goal
 
 abbrev pub invariant-loop-at : goal.invariant-loop-at

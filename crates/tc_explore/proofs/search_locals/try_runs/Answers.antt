@@ -1,7 +1,6 @@
 use Rattle.std.proofs.Common.{rules, ◌∙◌, ◌≡◌, ◌+◌, true, false}
 use Rattle.tc_rules.specs.Prelude.{past_of}
-use Rattle.tc_explore.specs.Inside.{Seen.IsFull, Twins.AreLocalsRuns}
-use Rattle.tc_explore.proofs.{Closed.full_longer, Closed.longer_then, LocalsClosed.locals_runs_more, LocalsClosed.more_then, search_locals.try_runs.Goals.else-is_closed, search_locals.try_runs.Goals.then-is_closed}
+use Rattle.tc_explore.{specs.Inside.{Seen.IsFull, Twins.AreLocalsRuns}, proofs.{Closed.{full_longer, longer_then}, LocalsClosed.{locals_runs_more, more_then}, search_locals.try_runs.Goals.{else-is_closed, then-is_closed}}}
 use Rattle.tc_explore.proofs.search_locals.try_runs.Goals as goal
 
 pub loop-run-preserved : goal.loop-run-preserved

@@ -1,6 +1,6 @@
 use Rattle.std.proofs.Common.{◌≡◌, true, false}
 use Rattle.tc_rules.specs.Prelude.{past_of}
-use Rattle.tc_explore.specs.{Found.AreLocals, Inside.Seen.IsFull, Inside.Seen.IsLonger, Inside.Twins.AreGoing, Inside.Twins.AreLocalsRuns, Inside.Twins.IsMore}
+use Rattle.tc_explore.specs.{Found.AreLocals, Inside.{Seen.{IsFull, IsLonger}, Twins.{AreGoing, AreLocalsRuns, IsMore}}}
 use Rattle.tc_explore.proofs.search_locals.try_runs.Given as goal
 
 abbrev pub invariant-loop-run : goal.invariant-loop-run

@@ -1,7 +1,6 @@
 use Rattle.std.proofs.Common.{rules, ◌≡◌, ◌∙◌, ◌++◌, refl}
 use Rattle.tc_rules.specs.Prelude.{past_of, is_active}
-use Rattle.tc_course.specs.Prelude.{stand}
-use Rattle.tc_course.proofs.Lemmas.{next_of}
+use Rattle.tc_course.{specs.Prelude.stand, proofs.Lemmas.next_of}
 use Rattle.tc_explore.specs.Inside.Twins.{run_key_of}
 use Rattle.tc_explore.proofs.state_keys.add_runs.Goals as goal
 

@@ -1,5 +1,4 @@
-use Rattle.std.proofs.Common.{◌≡◌, ◌++◌}
-use Rattle.std.specs.List.{flat_map, range_with_len}
+use Rattle.std.{proofs.Common.{◌≡◌, ◌++◌}, specs.List.{flat_map, range_with_len}}
 use Rattle.tc_explored.specs.Line.{local_line}
 use Rattle.tc_explored.proofs.locals.append_lines.Given as goal
 

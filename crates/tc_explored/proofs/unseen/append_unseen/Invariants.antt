@@ -1,6 +1,4 @@
-use Rattle.std.proofs.Common.{◌≡◌, ◌++◌}
-use Rattle.std.specs.Prelude.{slice_index_or}
-use Rattle.std.specs.List.{flat_map, range_with_len}
+use Rattle.std.{proofs.Common.{◌≡◌, ◌++◌}, specs.{Prelude.slice_index_or, List.{flat_map, range_with_len}}}
 use Rattle.tc_course.specs.Prelude.{steps_of}
 use Rattle.tc_explored.specs.Details.{unseen_among}
 use Rattle.tc_explored.proofs.unseen.append_unseen.Given as goal

@@ -1,5 +1,4 @@
-use Rattle.std.proofs.Common.{◌≡◌, ◌++◌, take}
-use Rattle.std.specs.List.{flat_map}
+use Rattle.std.{proofs.Common.{◌≡◌, ◌++◌, take}, specs.List.flat_map}
 use Rattle.tc_judge.specs.{Compared.note, declared.compare.Wrong.TheVariants.Missing}
 use Rattle.tc_judge.proofs.compare.append_missing.Given as goal
 

@@ -1,8 +1,5 @@
-use Rattle.std.proofs.Common.{rules, ◌≡◌, ◌∙◌, ◌<◌, ◌≤◌, ◌++◌, [], length, get_or, reverse, take, ap, sym, subst, arith}
-use Rattle.std.specs.List.{flat_map}
-use Rattle.std.proofs.lemmas.{List.take_all, Slice.Zip.AllZip-long}
-use Rattle.tc_judge.specs.{Compared.AreJudged, Compared.missing, Compared.note, Inside.IsJudgedBlock, Inside.IsWholeOfBlock, Inside.StandsBeside, declared.compare.Wrong.Wrong}
-use Rattle.tc_judge.proofs.Beside.{compared_more}
+use Rattle.std.{proofs.{Common.{rules, ◌≡◌, ◌∙◌, ◌<◌, ◌≤◌, ◌++◌, [], length, get_or, reverse, take, ap, sym, subst, arith}, lemmas.{List.take_all, Slice.Zip.AllZip-long}}, specs.List.flat_map}
+use Rattle.tc_judge.{specs.{Compared.{AreJudged, missing, note}, Inside.{IsJudgedBlock, IsWholeOfBlock, StandsBeside}, declared.compare.Wrong.Wrong}, proofs.Beside.compared_more}
 use Rattle.tc_judge.proofs.compare.compare.Goals as goal
 
 pub loop-block-preserved : goal.loop-block-preserved

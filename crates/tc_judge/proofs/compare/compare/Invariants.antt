@@ -1,5 +1,4 @@
-use Rattle.tc_judge.specs.Inside.{IsWhole}
-use Rattle.tc_judge.proofs.Beside.{ComparedTo}
+use Rattle.tc_judge.{specs.Inside.IsWhole, proofs.Beside.ComparedTo}
 use Rattle.tc_judge.proofs.compare.compare.Given as goal
 
 abbrev pub invariant-loop-block : goal.invariant-loop-block

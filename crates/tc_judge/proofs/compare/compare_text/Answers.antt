@@ -1,9 +1,6 @@
-use Rattle.std.proofs.Common.{rules, ◌≡◌, ◌∙◌, ◌==◌, ◌++◌, [], false, if◌then◌else◌, ap, length, refl, subst, sym}
-use Rattle.std.specs.List.{AllZip}
-use Rattle.std.specs.Prelude.{is_some}
+use Rattle.std.{proofs.Common.{rules, ◌≡◌, ◌∙◌, ◌==◌, ◌++◌, [], false, if◌then◌else◌, ap, length, refl, subst, sym}, specs.{List.AllZip, Prelude.is_some}}
 use Rattle.tc_answer.specs.Prelude.{blocks_part}
-use Rattle.tc_judge.specs.{Inside.AreJudgedIn, Inside.IsJudgedBlock, Inside.IsWholeOfBlock, Inside.KeepsNothing, Inside.first_illegal, Inside.is_picked, Inside.printed, Check.counting}
-use Rattle.tc_judge.proofs.Judging.{all_checked}
+use Rattle.tc_judge.{specs.{Inside.{AreJudgedIn, IsJudgedBlock, IsWholeOfBlock, KeepsNothing, first_illegal, is_picked, printed}, Check.counting}, proofs.Judging.all_checked}
 use Rattle.tc_judge.proofs.compare.compare_text.Goals as goal
 
 pub returns-clause-done : goal.returns-clause-done

@@ -1,8 +1,6 @@
-use Rattle.std.proofs.Common.{rules, ◌≡◌, ◌∙◌, ap, reverse, subst, sym}
-use Rattle.std.specs.List.{AllZip}
+use Rattle.std.{proofs.Common.{rules, ◌≡◌, ◌∙◌, ap, refl, reverse, subst, sym}, specs.List.AllZip}
 use Rattle.tc_answer.specs.Prelude.{blocks_part}
-use Rattle.tc_judge.specs.{Compared.missing, Inside.AreJudgedIn, Inside.IsJudgedBlock, Inside.IsSummaryOf, Inside.IsWholeOfBlock, Inside.first_illegal, Check.counting, Report.IsReport}
-use Rattle.tc_judge.proofs.Judging.{all_reports}
+use Rattle.tc_judge.{specs.{Compared.missing, Inside.{AreJudgedIn, IsJudgedBlock, IsSummaryOf, IsWholeOfBlock, first_illegal}, Check.counting, Report.IsReport}, proofs.Judging.all_chosen}
 use Rattle.tc_judge.proofs.compare.report_compared.Goals as goal
 
 pub returns-clause-done : goal.returns-clause-done
@@ -28,10 +26,10 @@ returns-clause-done c =
             let bs = counting c.args.choice.now.last all in
             let each = judged.holds all are in
             let so = c.in_ok-notes.ensures ready.cases bs ready.each (subst (λ l. AllZip (IsJudgedBlock (IsWholeOfBlock IsSummaryOf)) bs l) (sym c.as_slice-2.ensures.value) each) in
-            let reports = all_reports bs blocks c.first_illegal-illegal.result each (c.first_illegal-illegal.ensures ∙ ap first_illegal c.as_slice.ensures.value) in (
+            let chosen = all_chosen (IsWholeOfBlock IsSummaryOf) bs blocks c.first_illegal-illegal.result each (c.first_illegal-illegal.ensures ∙ ap first_illegal c.as_slice.ensures.value) in (
               so.0,
               subst (λ t. IsReport form t bs bs (missing (reverse bs) ready.cases) found.notes.items answer) part
-                  (subst (λ l. IsReport form c.split_script.result.1.now bs bs l found.notes.items answer) (names ∙ so.1) (c.in_ok-answer.ensures bs bs reports)),
+                  (subst (λ l. IsReport form c.split_script.result.1.now bs bs l found.notes.items answer) (names ∙ so.1) (c.in_ok-answer.ensures _ bs bs (λ legal. refl) chosen)),
             );
       };
     }

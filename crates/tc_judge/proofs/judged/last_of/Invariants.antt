@@ -1,5 +1,4 @@
-use Rattle.std.proofs.Common.{◌≡◌, [], fold, length, map}
-use Rattle.std.specs.Vec.Iter.{into_iter_items, into_iter_len}
+use Rattle.std.{proofs.Common.{◌≡◌, [], fold, length, map}, specs.Vec.Iter.{into_iter_items, into_iter_len}}
 use Rattle.tc_judge.specs.{Inside.judged_name, Check.put}
 use Rattle.tc_judge.proofs.judged.last_of.Given as goal
 

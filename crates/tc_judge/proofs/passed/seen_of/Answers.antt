@@ -1,7 +1,5 @@
-use Rattle.std.proofs.Common.{rules, ◌≡◌, ◌∙◌, ◌<◌, ◌+◌, ◌∷◌, ◌++◌, [], ap, length, get_or, take, subst, sym}
-use Rattle.std.proofs.lemmas.List.{take_all, take_more}
-use Rattle.tc_judge.specs.Inside.{HasSeen}
-use Rattle.tc_judge.proofs.Passing.{seen_more, seen_none}
+use Rattle.std.proofs.{Common.{rules, ◌≡◌, ◌∙◌, ◌<◌, ◌+◌, ◌∷◌, ◌++◌, [], ap, length, get_or, take, subst, sym}, lemmas.List.{take_all, take_more}}
+use Rattle.tc_judge.{specs.Inside.HasSeen, proofs.Passing.{seen_more, seen_none}}
 use Rattle.tc_judge.proofs.passed.seen_of.Goals as goal
 
 pub loop-block-preserved : goal.loop-block-preserved

@@ -1,7 +1,6 @@
 use Rattle.std.proofs.Common.{rules, ◌≡◌, subst}
 use Rattle.tc_answer.specs.Prelude.{blocks_part}
-use Rattle.tc_judge.specs.Inside.{AreJudgedIn, HasSeen, KeepsNothing}
-use Rattle.tc_judge.proofs.Passing.{ready_unpassed}
+use Rattle.tc_judge.{specs.Inside.{AreJudgedIn, HasSeen, KeepsNothing}, proofs.Passing.ready_unpassed}
 use Rattle.tc_judge.proofs.passed.unpassed_cases.Goals as goal
 
 pub returns-clause-are : goal.returns-clause-are

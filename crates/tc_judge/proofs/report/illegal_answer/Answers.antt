@@ -1,6 +1,5 @@
 use Rattle.std.proofs.Common.{◌∙◌, ◌++◌, ap, ap₂, codes}
-use Rattle.tc_judge.specs.Inside.{illegal_line}
-use Rattle.tc_judge.proofs.Lemmas.{answer_of}
+use Rattle.tc_judge.{specs.Inside.illegal_line, proofs.Lemmas.answer_of}
 use Rattle.tc_judge.proofs.report.illegal_answer.Goals as goal
 
 pub returns : goal.returns

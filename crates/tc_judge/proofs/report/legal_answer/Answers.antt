@@ -1,6 +1,5 @@
 use Rattle.std.proofs.Common.{subst, sym}
-use Rattle.tc_judge.specs.Report.{IsForm}
-use Rattle.tc_judge.proofs.Judging.{answer_made}
+use Rattle.tc_judge.{specs.Report.IsForm, proofs.Judging.answer_made}
 use Rattle.tc_judge.proofs.report.legal_answer.Goals as goal
 
 pub returns : goal.returns

@@ -1,33 +1,29 @@
-use Rattle.std.proofs.Common.{◌∙◌, [], ap, filter, map, subst, sym}
-use Rattle.tc_judge.specs.{Inside.IsSummaryOf, Inside.Reports, Inside.first_illegal, Inside.is_picked, Inside.summary_by, Check.counting, Check.is_chosen, Report.IsReport}
-use Rattle.tc_judge.proofs.Judging.{names_found, names_lacking, of_any_text, picked_reports}
+use Rattle.std.proofs.Common.{[], filter, refl, subst, sym}
+use Rattle.tc_judge.{specs.{Inside.{AreChosenBlocks, is_picked}, Check.{IsMadeOfBlocks, counting, is_chosen}, Report.{IsReport, IsReported}}, proofs.Judging.{all_named, names_lacking, passed_on, picked_chosen}}
 use Rattle.tc_judge.proofs.report.reported.Goals as goal
 
-pub returns-then-not-name_blocks : goal.returns-then-not-name_blocks
-returns-then-not-name_blocks c given fits are =
-    names_lacking IsSummaryOf c.args.choice.now c.as_slice-only.result.now given c.args.blocks.items c.as_slice-only.ensures.value are
-    (rw c.as_slice.ensures.value at (sym c.name_blocks.ensures ∙ c.if-not-name_blocks.true))
+pub returns-in_err-chosen : goal.returns-in_err-chosen
+returns-in_err-chosen g c given fits are =
+    let lacking = c.in_err-chosen.ensures.lacking in
+    let choice = c.args.choice.now in
+    passed_on (IsMadeOfBlocks choice given (IsReported c.args.form.now choice.last (is_chosen choice) given)) c.from_residual.result c.in_err-chosen.field-0.0 c.from_residual.ensures.1
+    (rw lacking.0 (names_lacking g.K.Answers.kept_of choice choice.only.items given c.args.blocks.items refl are lacking.1))
 
 pub returns : goal.returns
-returns c given fits are =
-    let form = c.args.form.now in
+returns g c given fits are =
     let choice = c.args.choice.now in
-    let blocks = c.args.blocks.items in
-    let answer = c.in_ok-answer.answer in
-    let same = c.as_slice-only.ensures.value in
-    let picked = c.picked-chosen.ensures ∙ ap (λ o. filter (λ j. is_picked o choice.failed j.name j.verdict) blocks) same in
-    let first = c.first_illegal-illegal.ensures ∙ ap first_illegal c.as_slice-2.ensures.value in (
+    let keeps = g.K.Answers.kept_of in
+    let are_picked = c.in_ok-chosen.ensures.picked in (
       record {
         blocks = are.blocks;
         evidence = are.evidence;
         holds = λ all is.
             let bs = counting choice.last all in
             let chosen = filter (is_chosen choice) bs in
-            of_any_text form given c.args.text.now bs chosen [] [] answer fits
-            (subst (λ notes. IsReport form c.args.text.now bs chosen [] notes answer) c.new.ensures.items
-            (c.in_ok-answer.ensures bs chosen
-            (subst (λ js. Reports bs chosen (map (summary_by (λ s. s)) js) c.first_illegal-illegal.result) (sym picked)
-            (picked_reports (is_picked choice.only.items choice.failed) bs blocks c.first_illegal-illegal.result (are.holds all is) first))));
+            subst (λ notes. IsReport c.args.form.now given bs chosen [] notes c.in_ok-answer.answer) c.new.ensures.items
+            (c.in_ok-answer.ensures given bs chosen (λ legal. fits chosen)
+            (subst (λ js. AreChosenBlocks keeps bs chosen js c.in_ok-chosen.illegal) (sym are_picked.picked)
+            (picked_chosen keeps (is_picked choice.only.items choice.failed) bs c.args.blocks.items c.in_ok-chosen.illegal (are.holds all is) are_picked.first)));
       },
-      names_found IsSummaryOf choice c.as_slice-only.result.now given blocks same are (rw c.as_slice.ensures.value at (sym c.name_blocks.ensures ∙ c.if-not-name_blocks.false)),
+      all_named keeps choice choice.only.items given c.args.blocks.items refl are are_picked.found,
     )

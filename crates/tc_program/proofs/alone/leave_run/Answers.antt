@@ -1,6 +1,5 @@
 use Rattle.std.proofs.Common.{inl, inr, subst, sym}
-use Rattle.tc_answer.specs.Prelude.{held_streams}
-use Rattle.tc_answer.proofs.Lemmas.Giving.{keeps_same}
+use Rattle.tc_answer.{specs.Prelude.held_streams, proofs.Lemmas.Giving.keeps_same}
 use Rattle.tc_program.specs.{Alone.IsNotBegun, Inside.Refuses, Program.IsDoneBy}
 use Rattle.tc_program.proofs.alone.leave_run.Goals as goal
 

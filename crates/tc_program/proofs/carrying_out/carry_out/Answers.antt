@@ -1,8 +1,6 @@
 use Rattle.std.proofs.Common.{rules, ◌≡◌, Ok, Err, subst, sym}
-use Rattle.tc_answer.proofs.Lemmas.Giving.{keeps_same}
-use Rattle.tc_answer.specs.Prelude.{held_streams}
-use Rattle.tc_program.specs.Program.{IsCarriedOut}
-use Rattle.tc_program.proofs.Doing.{parts_given, parts_refused}
+use Rattle.tc_answer.{proofs.Lemmas.Giving.keeps_same, specs.Prelude.held_streams}
+use Rattle.tc_program.{specs.Program.IsCarriedOut, proofs.Doing.{parts_given, parts_refused}}
 use Rattle.tc_program.proofs.carrying_out.carry_out.Goals as goal
 
 pub returns-in-Serve : goal.returns-in-Serve

@@ -1,7 +1,5 @@
-use Rattle.std.proofs.Common.{subst}
-use Rattle.std.specs.Option.{option_map}
-use Rattle.tc_text.proofs.Lemmas.{Among.among_more, Saying.on_ok}
-use Rattle.tc_text.specs.Prelude.{TellsAmong}
+use Rattle.std.{proofs.Common.subst, specs.Option.option_map}
+use Rattle.tc_text.{proofs.Lemmas.{Among.among_more, Saying.on_ok}, specs.Prelude.TellsAmong}
 use Rattle.tc_answer.specs.Prelude.{number_of}
 use Rattle.tc_program.specs.{Explained.part_of, Inside.notes_of, Limits.has_blocks}
 use Rattle.tc_program.proofs.explained.append_why.Goals as goal

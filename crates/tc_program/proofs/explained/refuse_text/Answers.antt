@@ -1,5 +1,4 @@
-use Rattle.tc_program.specs.Explained.{IsToldOf}
-use Rattle.tc_program.proofs.Explaining.{some_told, told_or}
+use Rattle.tc_program.{specs.Inside.IsToldOf, proofs.Doing.{some_told, told_or}}
 use Rattle.tc_program.proofs.explained.refuse_text.Goals as goal
 
 pub returns : goal.returns

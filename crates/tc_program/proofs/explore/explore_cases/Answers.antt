@@ -1,5 +1,4 @@
-use Rattle.std.proofs.Common.{rules, ◌∙◌, ap, All, arith, length, subst, sym}
-use Rattle.std.proofs.lemmas.List.Elements.{All-head, All-tail}
+use Rattle.std.proofs.{Common.{rules, ◌∙◌, ap, All, arith, length, subst, sym}, lemmas.List.Elements.{All-head, All-tail}}
 use Rattle.tc_exec.proofs.Lemmas.Taking.{done_more}
 use Rattle.tc_judge.specs.Inside.{HasFewJobs}
 use Rattle.tc_program.proofs.Exploring.{done_all, done_start, none_left}

@@ -1,5 +1,4 @@
-use Rattle.std.proofs.Common.{◌≡◌, All, length}
-use Rattle.std.specs.Vec.Iter.{into_iter_items, into_iter_len}
+use Rattle.std.{proofs.Common.{◌≡◌, All, length}, specs.Vec.Iter.{into_iter_items, into_iter_len}}
 use Rattle.tc_exec.specs.Inside.{AreDone}
 use Rattle.tc_judge.specs.Inside.{HasFewJobs}
 use Rattle.tc_program.specs.Inside.{IsExploredOf}

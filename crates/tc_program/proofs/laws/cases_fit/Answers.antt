@@ -1,5 +1,4 @@
-use Rattle.std.proofs.Common.{All, subst}
-use Rattle.std.proofs.lemmas.List.{Elements.All-more, take_all}
+use Rattle.std.proofs.{Common.{All, subst}, lemmas.List.{Elements.All-more, take_all}}
 use Rattle.tc_program.specs.Inside.{FitsItsTypes}
 use Rattle.tc_program.proofs.laws.cases_fit.Goals as goal
 

@@ -1,7 +1,6 @@
 use Rattle.std.proofs.Common.{All, subst}
 use Rattle.tc_blocks.specs.declared.header.Kind.{Kind}
-use Rattle.tc_program.specs.Inside.{FitsItsTypes}
-use Rattle.tc_program.proofs.WrittenHistories.{reported_were_run}
+use Rattle.tc_program.{specs.Inside.FitsItsTypes, proofs.WrittenHistories.reported_were_run}
 use Rattle.tc_program.proofs.laws.were_run.Goals as goal
 
 pub returns-clause-histories : goal.returns-clause-histories

@@ -1,5 +1,4 @@
-use Rattle.std.proofs.Common.{◌≡◌, take}
-use Rattle.std.specs.List.{flat_map}
+use Rattle.std.{proofs.Common.{◌≡◌, take}, specs.List.flat_map}
 use Rattle.tc_program.specs.Inside.{case_line}
 use Rattle.tc_program.proofs.listing.list_of.Given as goal
 

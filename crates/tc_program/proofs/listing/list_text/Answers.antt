@@ -1,8 +1,7 @@
 use Rattle.std.proofs.Common.{◌∙◌, [], ap}
 use Rattle.tc_answer.specs.Prelude.{case_name}
 use Rattle.tc_judge.proofs.Lemmas.{answer_of}
-use Rattle.tc_program.specs.Inside.{list_text}
-use Rattle.tc_program.proofs.ListedNames.{same_lines}
+use Rattle.tc_program.{specs.Inside.list_text, proofs.OwnCases.same_lines}
 use Rattle.tc_program.proofs.listing.list_text.Goals as goal
 
 pub returns-clause-done : goal.returns-clause-done

@@ -1,7 +1,6 @@
 use Rattle.std.proofs.Common.{subst}
 use Rattle.tc_answer.proofs.Lemmas.Giving.{keeps_same}
-use Rattle.tc_program.specs.{Made.IsMade, Program.IsDoneBy}
-use Rattle.tc_program.proofs.Doing.{done_by}
+use Rattle.tc_program.{specs.{Made.IsMade, Program.IsDoneBy}, proofs.Doing.done_by}
 use Rattle.tc_program.proofs.made.finish.Goals as goal
 
 pub returns-in-Ok : goal.returns-in-Ok

@@ -1,6 +1,5 @@
 use Rattle.std.proofs.Common.{◌≡◌, map, drop}
-use Rattle.tc_reader.specs.Line.{word_name, each}
-use Rattle.tc_reader.proofs.Lawful.{with_front}
+use Rattle.tc_reader.{specs.Line.{word_name, each}, proofs.Lawful.with_front}
 use Rattle.tc_reader.proofs.line_reading.read_names.Given as goal
 
 abbrev pub invariant-loop-word : goal.invariant-loop-word

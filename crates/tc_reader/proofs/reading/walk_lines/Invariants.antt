@@ -1,6 +1,5 @@
 use Rattle.std.proofs.Common.{[], length}
-use Rattle.tc_reader.specs.{FirstPass.parsed, Text.lines}
-use Rattle.tc_reader.proofs.WalkedText.{IsRead}
+use Rattle.tc_reader.{specs.{FirstPass.parsed, Text.lines}, proofs.WalkedText.IsRead}
 use Rattle.tc_reader.proofs.reading.walk_lines.Given as goal
 
 abbrev pub invariant-loop-part : goal.invariant-loop-part

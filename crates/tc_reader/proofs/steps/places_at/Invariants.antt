@@ -1,5 +1,4 @@
-use Rattle.std.proofs.Common.{◌≡◌, ◌≤◌, length, map, take, drop}
-use Rattle.std.specs.List.{list_any}
+use Rattle.std.{proofs.Common.{◌≡◌, ◌≤◌, length, map, take, drop}, specs.List.list_any}
 use Rattle.tc_entry.specs.declared.limits.TheConstants.{ARGUMENTS}
 use Rattle.tc_reader.specs.{Campaign.place, SecondPass.is_unbound}
 use Rattle.tc_reader.proofs.steps.places_at.Given as goal

@@ -1,5 +1,4 @@
-use Rattle.std.proofs.Common.{rules, arith}
-use Rattle.std.proofs.lemmas.Bool.Decides.{nat_tests}
+use Rattle.std.proofs.{Common.{rules, arith}, lemmas.Bool.Decides.nat_tests}
 use Rattle.tc_reader.proofs.Skipping.{more_before}
 use Rattle.tc_reader.proofs.text.after_end.Goals as goal
 

@@ -1,5 +1,4 @@
-use Rattle.std.proofs.Common.{rules}
-use Rattle.std.proofs.lemmas.Option.{IfSome_then}
+use Rattle.std.proofs.{Common.rules, lemmas.Option.IfSome_then}
 use Rattle.tc_reader.proofs.Skipping.{blank_skipped, comment_skipped}
 use Rattle.tc_reader.proofs.text.after_skipped.Goals as goal
 

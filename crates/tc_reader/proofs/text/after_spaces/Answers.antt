@@ -1,5 +1,4 @@
-use Rattle.std.proofs.Common.{rules, arith}
-use Rattle.std.proofs.lemmas.Bool.Decides.{nat_tests}
+use Rattle.std.proofs.{Common.{rules, arith}, lemmas.Bool.Decides.nat_tests}
 use Rattle.tc_reader.proofs.Skipping.{more_indented}
 use Rattle.tc_reader.proofs.text.after_spaces.Goals as goal
 

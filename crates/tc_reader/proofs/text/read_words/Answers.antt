@@ -1,7 +1,5 @@
-use Rattle.std.proofs.Common.{rules, tests, ap, ◌∙◌}
-use Rattle.std.specs.Prelude.{filter}
-use Rattle.std.proofs.lemmas.Iterator.{Consumers.YieldsList-at, Consumers.YieldsList-end, Splits.YieldsList-from_slice_split}
-use Rattle.tc_reader.specs.{Inside.is_some_text, Inside.is_space, Text.words}
+use Rattle.std.{proofs.{Common.{rules, tests, ap, ◌∙◌}, lemmas.Iterator.{Consumers.{YieldsList-at, YieldsList-end}, Splits.YieldsList-from_slice_split}}, specs.Prelude.filter}
+use Rattle.tc_reader.specs.{Inside.{is_some_text, is_space}, Text.words}
 use Rattle.tc_reader.proofs.text.read_words.Goals as goal
 
 pub returns : goal.returns

@@ -1,5 +1,4 @@
-use Rattle.std.proofs.Common.{◌≡◌, map}
-use Rattle.std.specs.Prelude.{filter}
+use Rattle.std.{proofs.Common.{◌≡◌, map}, specs.Prelude.filter}
 use Rattle.tc_reader.specs.Inside.{is_some_text}
 use Rattle.tc_reader.proofs.text.read_words.Given as goal
 

@@ -1,5 +1,4 @@
-use Rattle.std.proofs.Common.{◌≡◌, ◌≤◌, ◌+◌, ◌++◌, length}
-use Rattle.std.specs.List.{flat_map}
+use Rattle.std.{proofs.Common.{◌≡◌, ◌≤◌, ◌+◌, ◌++◌, length}, specs.List.flat_map}
 use Rattle.tc_blocks.specs.Prelude.{with_lf, line_text}
 use Rattle.tc_report.specs.Inside.{namings}
 use Rattle.tc_report.proofs.blocks.append_namings.Given as goal

@@ -1,5 +1,4 @@
-use Rattle.std.proofs.Common.{◌∙◌, ◌++◌, codes, subst}
-use Rattle.std.specs.Io.KnownBytes.{Appends}
+use Rattle.std.{proofs.Common.{◌∙◌, ◌++◌, codes, subst}, specs.Io.KnownBytes.Appends}
 use Rattle.tc_stream.specs.Prelude.{AppendsPrefix}
 use Rattle.tc_report.proofs.Writing.{all_out, first_left, last_left, second_left, when_err}
 use Rattle.tc_report.proofs.ending.write_aborted.Goals as goal

@@ -1,7 +1,6 @@
 use Rattle.std.proofs.Common.{◌≡◌, ◌++◌, take}
-use Rattle.std.specs.List.{flat_map}
-use Rattle.tc_report.specs.Junit.{case_element}
+use Rattle.tc_report.specs.Junit.{case_elements}
 use Rattle.tc_report.proofs.junit.append_elements.Given as goal
 
-abbrev pub invariant-loop-case : goal.invariant-loop-case
-invariant-loop-case l = l.out.items ≡ l.fn.out.items ++ flat_map (case_element l.suite) (take l.case-index l.cases)
+abbrev pub invariant-loop-at : goal.invariant-loop-at
+invariant-loop-at l = l.out.items ≡ l.fn.out.items ++ case_elements l.suite l.times (take l.at l.cases)

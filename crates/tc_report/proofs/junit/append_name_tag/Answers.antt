@@ -1,14 +1,12 @@
-use Rattle.std.proofs.Common.{rules, ◌≡◌, ◌++◌, OnOk, codes, subst}
-use Rattle.tc_report.specs.Junit.{name_tag}
-use Rattle.tc_report.proofs.Writing.{joined_five}
+use Rattle.std.proofs.Common.{◌≡◌, ◌∙◌, ◌++◌, OnOk, ap, codes, subst}
+use Rattle.tc_report.{specs.Junit.{attribute_text, name_tag}, proofs.Writing.joined_two}
 use Rattle.tc_report.proofs.junit.append_name_tag.Goals as goal
 
 pub returns : goal.returns
 unfolding name_tag
 returns c =
-    let name : c.extend_from_slice.new.self.items ≡ c.append_text.new.out.items ++ c.args.name.now = search rules in
-    let suite : c.extend_from_slice-2.new.self.items ≡ c.append_text-2.new.out.items ++ c.args.suite.now = search rules in
-    subst (λ l. OnOk c.append_text-3.result (c.append_text-3.new.out.items ≡ l))
-    (joined_five c.args.out.now.items (codes "<testcase name=\"") c.args.name.now (codes "\" classname=\"") c.args.suite.now (codes "\">\n")
-    c.append_text.new.out.items c.extend_from_slice.new.self.items c.append_text-2.new.out.items c.extend_from_slice-2.new.self.items
-    c.in_ok-append_text.ensures.ok name c.in_ok-append_text-2.ensures.ok suite) c.append_text-3.ensures.ok
+    let first = attribute_text (codes "<testcase name=\"") in
+    let name = c.in_ok-append_text_attribute.ensures ∙ ap (λ l. c.args.out.now.items ++ first l) c.bytes.ensures.bytes in
+    subst (λ l. OnOk c.append_text_attribute-2.result (c.append_text_attribute-2.new.out.items ≡ l))
+    (joined_two c.args.out.now.items (first c.args.name.now) (attribute_text (codes " classname=\"") c.args.suite.now) c.append_text_attribute.new.out.items name)
+    c.append_text_attribute-2.ensures

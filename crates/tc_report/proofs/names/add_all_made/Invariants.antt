@@ -1,5 +1,4 @@
-use Rattle.std.proofs.Common.{◌≡◌, ◌++◌, take}
-use Rattle.std.specs.List.{flat_map}
+use Rattle.std.{proofs.Common.{◌≡◌, ◌++◌, take}, specs.List.flat_map}
 use Rattle.tc_report.specs.Inside.{made_name}
 use Rattle.tc_report.proofs.names.add_all_made.Given as goal
 

@@ -1,10 +1,8 @@
-use Rattle.std.proofs.Common.{◌≢◌, ◌∷◌, [], length}
-use Rattle.std.specs.Fmt.{decimal}
+use Rattle.std.{proofs.Common.{◌≢◌, ◌∷◌, [], length}, specs.Fmt.decimal}
 use Rattle.csv.specs.Writing.{writer_setup}
 use Rattle.csv.specs.declared.writer.QuoteStyle.TheVariants as style
 use Rattle.tc_rules.specs.Prelude.{Verdict}
-use Rattle.tc_report.specs.{Csv.end_word, Report.count_of}
-use Rattle.tc_report.proofs.Plain.{fields-unquoted, row_text-unquoted}
+use Rattle.tc_report.{specs.{Csv.end_word, Report.count_of}, proofs.Plain.{fields-unquoted, row_text-unquoted}}
 use Rattle.tc_report.proofs.records.add_row.Goals as goal
 
 pub returns-in-Ok-clause-written : goal.returns-in-Ok-clause-written

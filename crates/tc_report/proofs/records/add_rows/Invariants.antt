@@ -1,6 +1,5 @@
-use Rattle.std.proofs.Common.{◌≡◌, ◌++◌, take}
-use Rattle.std.specs.List.{flat_map}
-use Rattle.tc_report.specs.{Csv.row_line, Inside.IsBetweenRecords, Inside.written_by}
+use Rattle.std.{proofs.Common.{◌≡◌, ◌++◌, take}, specs.List.flat_map}
+use Rattle.tc_report.specs.{Csv.row_line, Inside.{IsBetweenRecords, written_by}}
 use Rattle.tc_report.proofs.records.add_rows.Given as goal
 
 abbrev pub invariant-loop-case : goal.invariant-loop-case

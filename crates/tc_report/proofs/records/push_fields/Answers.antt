@@ -1,6 +1,5 @@
-use Rattle.std.proofs.Common.{All, subst}
-use Rattle.std.specs.Fmt.{IsBoundedDecimal}
-use Rattle.tc_report.specs.Csv.{counts_of}
+use Rattle.std.{proofs.Common.{All, subst}, specs.Fmt.IsBoundedDecimal}
+use Rattle.tc_report.specs.Inside.{counts_of}
 use Rattle.tc_report.proofs.records.push_fields.Goals as goal
 
 pub returns-clause-digits : goal.returns-clause-digits

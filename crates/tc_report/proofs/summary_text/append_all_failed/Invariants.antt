@@ -1,5 +1,4 @@
-use Rattle.std.proofs.Common.{◌≡◌, ◌++◌, filter, take}
-use Rattle.std.specs.List.{flat_map}
+use Rattle.std.{proofs.Common.{◌≡◌, ◌++◌, filter, take}, specs.List.flat_map}
 use Rattle.tc_report.specs.{Inside.has_failed, SummaryText.shown_case}
 use Rattle.tc_report.proofs.summary_text.append_all_failed.Given as goal
 

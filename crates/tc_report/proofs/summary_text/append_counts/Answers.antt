@@ -1,7 +1,6 @@
 use Rattle.std.proofs.Common.{◌≡◌, OnOk, codes, length, subst}
 use Rattle.tc_rules.specs.Prelude.{name_of}
-use Rattle.tc_report.specs.{Report.tally_by, Report.tally_line, SummaryText.counts_text, SummaryText.ended_so, SummaryText.other_line}
-use Rattle.tc_report.proofs.Writing.{joined_five}
+use Rattle.tc_report.{specs.{Report.{tally_by, tally_line}, SummaryText.{counts_text, ended_so, other_line}}, proofs.Writing.joined_five}
 use Rattle.tc_report.proofs.summary_text.append_counts.Goals as goal
 
 pub returns : goal.returns

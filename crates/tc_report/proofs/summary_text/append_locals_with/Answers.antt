@@ -1,5 +1,4 @@
-use Rattle.std.proofs.Common.{◌≡◌, ◌∙◌, ◌++◌, OnOk, ap, map, subst}
-use Rattle.std.proofs.lemmas.Simd.{map-map}
+use Rattle.std.proofs.{Common.{◌≡◌, ◌∙◌, ◌++◌, OnOk, ap, map, subst}, lemmas.Simd.map-map}
 use Rattle.tc_report.specs.{Inside.member_text, SummaryText.verdict_group}
 use Rattle.tc_report.proofs.summary_text.append_locals_with.Goals as goal
 

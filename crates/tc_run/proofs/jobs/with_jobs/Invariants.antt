@@ -1,6 +1,4 @@
-use Rattle.std.proofs.Common.{◌≡◌, ◌++◌, length}
-use Rattle.std.specs.Prelude.{map}
-use Rattle.std.specs.Vec.Iter.{into_iter_items, into_iter_len}
+use Rattle.std.{proofs.Common.{◌≡◌, ◌++◌, length}, specs.{Prelude.map, Vec.Iter.{into_iter_items, into_iter_len}}}
 use Rattle.tc_answer.specs.Inside.{case_parts}
 use Rattle.tc_run.proofs.jobs.with_jobs.Given as goal
 

@@ -1,5 +1,4 @@
-use Rattle.std.proofs.Common.{◌∙◌, ◌+◌, ◌++◌, ◌∷◌, ap, sym, subst, drop}
-use Rattle.std.proofs.lemmas.List.{append-nil}
+use Rattle.std.proofs.{Common.{◌∙◌, ◌+◌, ◌++◌, ◌∷◌, ap, sym, subst, drop}, lemmas.List.append-nil}
 use Rattle.tc_step.specs.Prelude.{AreBound}
 use Rattle.tc_script.proofs.Lemmas.Running.{so_far_none, so_far_more, step_at}
 use Rattle.tc_script.proofs.behaviour.make_calls.Goals as goal

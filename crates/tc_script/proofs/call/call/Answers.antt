@@ -1,7 +1,5 @@
-use Rattle.std.proofs.Common.{◌∙◌, ◌++◌, All, ap, refl, subst, map, length}
-use Rattle.std.proofs.lemmas.List.Elements.{All-tail}
-use Rattle.tc_step.specs.declared.step.Step.{Step}
-use Rattle.tc_step.specs.Prelude.{IsBound, places, component}
+use Rattle.std.proofs.{Common.{◌∙◌, ◌++◌, All, ap, refl, subst, map, length}, lemmas.List.Elements.All-tail}
+use Rattle.tc_step.specs.{declared.step.Step.Step, Prelude.{IsBound, places, component}}
 use Rattle.tc_script.proofs.Carrying.{plain_step, start_same}
 use Rattle.tc_script.proofs.call.call.Goals as goal
 

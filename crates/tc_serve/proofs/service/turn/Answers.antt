@@ -1,6 +1,5 @@
 use Rattle.std.proofs.Common.{◌∙◌, ap, is_err, arith, rules}
-use Rattle.tc_serve.specs.declared.service.ServeFault.{ServeFault}
-use Rattle.tc_serve.proofs.Feeding.{is_no_device, unread, unwritten, written}
+use Rattle.tc_serve.{specs.declared.service.ServeFault.ServeFault, proofs.Feeding.{is_no_device, unread, unwritten, written}}
 use Rattle.tc_serve.proofs.service.turn.Goals as goal
 
 pub returns-in-Ok-put-clause-turn : goal.returns-in-Ok-put-clause-turn

@@ -1,5 +1,4 @@
-use Rattle.std.proofs.Common.{arith}
-use Rattle.std.proofs.lemmas.Bool.Decides.{nat_tests}
+use Rattle.std.proofs.{Common.arith, lemmas.Bool.Decides.nat_tests}
 use Rattle.tc_serve.proofs.Feeding.{no_lf_next}
 use Rattle.tc_serve.proofs.serving.cut_line.Goals as goal
 

@@ -1,6 +1,5 @@
 use Rattle.std.proofs.Common.{◌∙◌, Some, ap, sym}
-use Rattle.tc_serve.specs.declared.sleepers.Sleeper.{Sleeper}
-use Rattle.tc_serve.proofs.Sleeping.{at_end, other_there, there}
+use Rattle.tc_serve.{specs.declared.sleepers.Sleeper.Sleeper, proofs.Sleeping.{at_end, other_there, there}}
 use Rattle.tc_serve.proofs.sleepers.awaited_by.Goals as goal
 
 pub returns-in_err-sleeper : goal.returns-in_err-sleeper

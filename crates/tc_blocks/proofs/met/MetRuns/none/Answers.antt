@@ -1,5 +1,4 @@
-use Rattle.std.proofs.Common.{false}
-use Rattle.std.proofs.lemmas.List.{get_or-replicate}
+use Rattle.std.proofs.{Common.false, lemmas.List.get_or-replicate}
 use Rattle.tc_blocks.proofs.met.MetRuns.none.Goals as goal
 
 pub returns : goal.returns

@@ -1,6 +1,5 @@
 use Rattle.tc_rules.specs.Prelude.{past_of}
-use Rattle.tc_explore.specs.{Found.AreLocals, Inside.Twins.IsMore}
-use Rattle.tc_explore.proofs.Marking.{HasLocalsTo}
+use Rattle.tc_explore.{specs.{Found.AreLocals, Inside.Twins.IsMore}, proofs.Marking.HasLocalsTo}
 use Rattle.tc_explore.proofs.marks.Marks.note_all.Given as goal
 
 abbrev pub invariant-loop-comp : goal.invariant-loop-comp

@@ -1,6 +1,5 @@
 use Rattle.std.proofs.Common.{rules, ◌≡◌, None, subst}
-use Rattle.tc_judge.specs.Inside.{Judges}
-use Rattle.tc_judge.proofs.Beside.{says_none, says_wrong}
+use Rattle.tc_judge.{specs.Inside.Judges, proofs.Beside.{says_none, says_wrong}}
 use Rattle.tc_judge.proofs.compare.Comparing.append_judged.Goals as goal
 
 pub returns-in_ok-append_note-clause-says : goal.returns-in_ok-append_note-clause-says

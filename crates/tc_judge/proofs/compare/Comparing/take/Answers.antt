@@ -1,8 +1,6 @@
-use Rattle.std.proofs.Common.{rules, ◌≡◌, ◌∙◌, ◌<◌, ◌≤◌, ◌+◌, length, get_or, Some, None, true, false, slice_index_or, ap, refl, sym, subst}
-use Rattle.std.proofs.lemmas.List.{get_or_default}
+use Rattle.std.proofs.{Common.{rules, ◌≡◌, ◌∙◌, ◌<◌, ◌≤◌, ◌+◌, length, get_or, Some, None, true, false, slice_index_or, ap, refl, sym, subst}, lemmas.List.get_or_default}
 use Rattle.tc_answer.specs.Prelude.{scripts_of}
-use Rattle.tc_judge.specs.Compared.{IsCourseOf, IsJudged, place_in}
-use Rattle.tc_judge.proofs.Beside.{beside_late, beside_next, beside_twice, beside_unknown, not_met, placed, scripts_at}
+use Rattle.tc_judge.{specs.Compared.{IsCourseOf, IsJudged, place_in}, proofs.Beside.{beside_late, beside_next, beside_twice, beside_unknown, not_met, placed, scripts_at}}
 use Rattle.tc_judge.proofs.compare.Comparing.take.Goals as goal
 
 pub returns-in_default-clause-judged : goal.returns-in_default-clause-judged

@@ -1,5 +1,4 @@
-use Rattle.std.proofs.Common.{◌≡◌, true, false, arith}
-use Rattle.std.specs.Prelude.{is_some}
+use Rattle.std.{proofs.Common.{◌≡◌, true, false, arith}, specs.Prelude.is_some}
 use Rattle.tc_blocks.specs.declared.line.Line.{Line}
 use Rattle.tc_judge.proofs.Lemmas.{entry_played, passed_played}
 use Rattle.tc_judge.proofs.playing.Playing.play.Goals as goal

@@ -1,9 +1,7 @@
-use Rattle.std.proofs.Common.{◌≡◌, true, false, arith, subst}
-use Rattle.std.specs.Prelude.{is_some}
+use Rattle.std.{proofs.Common.{◌≡◌, true, false, arith, subst}, specs.Prelude.is_some}
 use Rattle.tc_text.specs.Prelude.{op_of}
-use Rattle.tc_blocks.specs.Prelude.{short_entry}
+use Rattle.tc_blocks.specs.{Prelude.short_entry, declared.line.Line.Line}
 use Rattle.tc_rules.specs.Prelude.{IsReplyOf, TakesIn}
-use Rattle.tc_blocks.specs.declared.line.Line.{Line}
 use Rattle.tc_judge.proofs.Lemmas.{entry_played, passed_played}
 use Rattle.tc_judge.proofs.playing.Playing.play_short.Goals as goal
 

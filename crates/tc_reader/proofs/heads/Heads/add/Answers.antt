@@ -1,5 +1,4 @@
-use Rattle.std.proofs.Common.{◌∙◌, sym, ap}
-use Rattle.std.specs.Prelude.{is_some}
+use Rattle.std.{proofs.Common.{◌∙◌, sym, ap}, specs.Prelude.is_some}
 use Rattle.tc_reader.proofs.Binding.{head_added}
 use Rattle.tc_reader.proofs.heads.Heads.add.Goals as goal
 

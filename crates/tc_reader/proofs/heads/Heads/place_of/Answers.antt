@@ -1,6 +1,5 @@
 use Rattle.std.proofs.Common.{◌∙◌, sym}
-use Rattle.tc_reader.specs.Words.{is_text}
-use Rattle.tc_reader.proofs.Placed.{absent_head_at_end}
+use Rattle.tc_reader.{specs.Words.is_text, proofs.Placed.absent_head_at_end}
 use Rattle.tc_reader.proofs.heads.Heads.place_of.Goals as goal
 
 pub returns-in-None-clause-place : goal.returns-in-None-clause-place

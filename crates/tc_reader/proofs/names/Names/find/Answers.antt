@@ -1,6 +1,5 @@
 use Rattle.std.proofs.Common.{◌∙◌}
-use Rattle.tc_reader.specs.Words.{is_text}
-use Rattle.tc_reader.proofs.Placed.{place_is}
+use Rattle.tc_reader.{specs.Words.is_text, proofs.Placed.place_is}
 use Rattle.tc_reader.proofs.names.Names.find.Goals as goal
 
 pub returns-clause-place : goal.returns-clause-place

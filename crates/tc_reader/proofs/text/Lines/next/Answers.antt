@@ -1,6 +1,5 @@
 use Rattle.std.proofs.Common.{rules, tests}
-use Rattle.tc_reader.specs.Text.{lines}
-use Rattle.tc_reader.proofs.Taking.{first_cut}
+use Rattle.tc_reader.{specs.Text.lines, proofs.Taking.first_cut}
 use Rattle.tc_reader.proofs.text.Lines.next.Goals as goal
 
 pub returns-then-is_empty : goal.returns-then-is_empty

@@ -1,6 +1,5 @@
 use Rattle.std.proofs.Common.{rules, arith}
-use Rattle.tc_reader.specs.Text.{lines}
-use Rattle.tc_reader.proofs.Skipping.{skips_next}
+use Rattle.tc_reader.{specs.Text.lines, proofs.Skipping.skips_next}
 use Rattle.tc_reader.proofs.text.Lines.skip.Goals as goal
 
 pub loop-more-preserved : goal.loop-more-preserved

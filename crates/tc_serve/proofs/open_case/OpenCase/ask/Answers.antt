@@ -1,5 +1,5 @@
 use Rattle.std.proofs.Common.{ℕ, ◌∙◌, ◌++◌, List, ap, refl, sym}
-use Rattle.tc_serve.proofs.{Trying.goes_nowhere, Trying.goes_on, Trying.lies_down, Trying.parks_by, Changes.begun_before}
+use Rattle.tc_serve.proofs.{Trying.{goes_nowhere, goes_on, lies_down, parks_by}, Changes.begun_before}
 use Rattle.tc_serve.proofs.open_case.OpenCase.ask.Goals as goal
 
 pub returns-then-not-is_own-clause-ok : goal.returns-then-not-is_own-clause-ok

@@ -1,8 +1,6 @@
-use Rattle.std.proofs.Common.{◌∙◌, refl, sym}
-use Rattle.std.proofs.lemmas.Result.{IfOk-weaker}
+use Rattle.std.proofs.{Common.{◌∙◌, refl, sym}, lemmas.Result.IfOk-weaker}
 use Rattle.tc_blocks.specs.declared.line.Line.{Line}
-use Rattle.tc_serve.specs.{Protocol.with_added_line, declared.order.Refusal.Refusal}
-use Rattle.tc_serve.proofs.Trying.{is_barred, is_free}
+use Rattle.tc_serve.{specs.{Protocol.with_added_line, declared.order.Refusal.Refusal}, proofs.Trying.{is_barred, is_free}}
 use Rattle.tc_serve.proofs.open_case.OpenCase.name.Goals as goal
 
 pub returns-then-has_met-clause-ok : goal.returns-then-has_met-clause-ok

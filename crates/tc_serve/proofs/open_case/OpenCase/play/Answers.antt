@@ -1,5 +1,4 @@
-use Rattle.std.proofs.Common.{◌∙◌, sym}
-use Rattle.std.proofs.lemmas.Result.{on_ok_weaker}
+use Rattle.std.proofs.{Common.{◌∙◌, sym}, lemmas.Result.on_ok_weaker}
 use Rattle.tc_serve.proofs.Trying.{wakes_all, wakes_none}
 use Rattle.tc_serve.proofs.open_case.OpenCase.play.Goals as goal
 

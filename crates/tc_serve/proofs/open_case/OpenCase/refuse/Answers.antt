@@ -1,7 +1,6 @@
 use Rattle.std.proofs.Common.{◌∙◌, Ok, refl, sym}
 use Rattle.tc_blocks.specs.declared.line.Line.{Line}
-use Rattle.tc_serve.specs.{Inside.with_line, Protocol.why_text, declared.order.Refusal.Refusal}
-use Rattle.tc_serve.proofs.Trying.{may_change, may_not, noted}
+use Rattle.tc_serve.{specs.{Inside.with_line, Protocol.why_text, declared.order.Refusal.Refusal}, proofs.Trying.{may_change, may_not, noted}}
 use Rattle.tc_serve.proofs.open_case.OpenCase.refuse.Goals as goal
 
 pub returns-then-not-has-clause-ok : goal.returns-then-not-has-clause-ok

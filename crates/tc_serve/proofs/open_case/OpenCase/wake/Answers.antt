@@ -1,6 +1,5 @@
 use Rattle.std.proofs.Common.{◌≡◌, ◌∙◌, suc, List, drop, take, ◌++◌, ap, sym, subst, refl}
-use Rattle.tc_serve.specs.{Inside.IsPassed, declared.sleepers.Sleeper.Sleeper}
-use Rattle.tc_serve.proofs.{Changes.begun_before, Sleeping.removed, Sleeping.that_one, Sleeping.sleeps_on, Sleeping.wakes_up}
+use Rattle.tc_serve.{specs.{Inside.IsPassed, declared.sleepers.Sleeper.Sleeper}, proofs.{Changes.begun_before, Sleeping.{removed, that_one, sleeps_on, wakes_up}}}
 use Rattle.tc_serve.proofs.open_case.OpenCase.wake.Goals as goal
 
 pub returns-then-is_parked_reply-clause-ok : goal.returns-then-is_parked_reply-clause-ok

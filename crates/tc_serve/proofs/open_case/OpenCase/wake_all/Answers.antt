@@ -1,5 +1,4 @@
-use Rattle.std.proofs.Common.{arith}
-use Rattle.std.proofs.lemmas.Grind.{common_steps}
+use Rattle.std.proofs.{Common.arith, lemmas.Grind.common_steps}
 use Rattle.tc_serve.proofs.Sleeping.{woken_last, woken_none, woken_one}
 use Rattle.tc_serve.proofs.open_case.OpenCase.wake_all.Goals as goal
 

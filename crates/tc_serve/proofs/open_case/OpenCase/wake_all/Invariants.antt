@@ -1,7 +1,5 @@
-use Rattle.std.proofs.Common.{ℕ, List, length, drop}
-use Rattle.std.specs.Io.{StartsWith}
-use Rattle.tc_serve.specs.{Inside.Holds, Protocol.Played}
-use Rattle.tc_serve.proofs.Sleeping.{IsWoken}
+use Rattle.std.{proofs.Common.{ℕ, List, length, drop}, specs.Io.StartsWith}
+use Rattle.tc_serve.{specs.{Inside.Holds, Protocol.Played}, proofs.Sleeping.IsWoken}
 use Rattle.tc_serve.proofs.open_case.OpenCase.wake_all.Given as goal
 
 -- those of the runs that sleep which come before this place were asked

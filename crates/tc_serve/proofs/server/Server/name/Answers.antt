@@ -1,6 +1,5 @@
 use Rattle.std.proofs.lemmas.Result.{IfOk-weaker}
-use Rattle.tc_serve.specs.Protocol.{with_name}
-use Rattle.tc_serve.proofs.Trying.{opened_tries}
+use Rattle.tc_serve.{specs.Protocol.with_name, proofs.Trying.opened_tries}
 use Rattle.tc_serve.proofs.server.Server.name.Goals as goal
 
 pub returns-in-Some-clause-ok : goal.returns-in-Some-clause-ok

@@ -1,6 +1,5 @@
 use Rattle.tc_blocks.specs.declared.line.Line.{Line}
-use Rattle.tc_serve.specs.Protocol.{with_added_line, why_text}
-use Rattle.tc_serve.proofs.Trying.{of_nobody, opened_tries, tells_run}
+use Rattle.tc_serve.{specs.Protocol.{with_added_line, why_text}, proofs.Trying.{of_nobody, opened_tries, tells_run}}
 use Rattle.tc_serve.proofs.server.Server.refuse.Goals as goal
 
 pub returns-in_default-clause-ok : goal.returns-in_default-clause-ok

@@ -1,7 +1,6 @@
 use Rattle.std.proofs.lemmas.Result.{IfOk-weaker}
 use Rattle.tc_blocks.specs.declared.line.Line.{Line}
-use Rattle.tc_serve.specs.Protocol.{with_added_line}
-use Rattle.tc_serve.proofs.Trying.{opened_tries}
+use Rattle.tc_serve.{specs.Protocol.with_added_line, proofs.Trying.opened_tries}
 use Rattle.tc_serve.proofs.server.Server.remark.Goals as goal
 
 pub returns-in-Some-clause-ok : goal.returns-in-Some-clause-ok

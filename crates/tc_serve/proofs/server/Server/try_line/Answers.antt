@@ -1,8 +1,6 @@
-use Rattle.std.proofs.Common.{Bool, subst, sym}
-use Rattle.std.proofs.lemmas.Result.{IfOk-weaker}
+use Rattle.std.proofs.{Common.{Bool, subst, sym}, lemmas.Result.IfOk-weaker}
 use Rattle.tc_text.specs.Prelude.{op_of}
-use Rattle.tc_serve.specs.{Inside.TriesLine, declared.order.Order.Order}
-use Rattle.tc_serve.proofs.Trying.{asked_by}
+use Rattle.tc_serve.{specs.{Inside.TriesLine, declared.order.Order.Order}, proofs.Trying.asked_by}
 use Rattle.tc_serve.proofs.server.Server.try_line.Goals as goal
 
 pub returns-in-Some-clause-ok : goal.returns-in-Some-clause-ok

@@ -1,5 +1,4 @@
-use Rattle.std.proofs.Common.{◌≢◌, [], arith}
-use Rattle.std.proofs.lemmas.Grind.{common_steps}
+use Rattle.std.proofs.{Common.{◌≢◌, [], arith}, lemmas.Grind.common_steps}
 use Rattle.tc_serve.proofs.Feeding.{ends_none, ends_some, stops_last}
 use Rattle.tc_serve.proofs.serving.Serving.end_last.Goals as goal
 

@@ -1,5 +1,4 @@
-use Rattle.std.proofs.Common.{◌≡◌, length, arith}
-use Rattle.std.proofs.lemmas.{Grind.common_steps, List.nil_from_length}
+use Rattle.std.proofs.{Common.{◌≡◌, length, arith}, lemmas.{Grind.common_steps, List.nil_from_length}}
 use Rattle.tc_serve.proofs.Feeding.{taken_all, taken_bad, taken_more, taken_none}
 use Rattle.tc_serve.proofs.serving.Serving.feed.Goals as goal
 

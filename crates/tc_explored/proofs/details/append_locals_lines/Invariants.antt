@@ -1,7 +1,0 @@
-use Rattle.std.proofs.Common.{◌≡◌, ◌++◌, take}
-use Rattle.std.specs.List.{flat_map}
-use Rattle.tc_explored.specs.Details.{locals}
-use Rattle.tc_explored.proofs.details.append_locals_lines.Given as goal
-
-abbrev pub invariant-loop-witness : goal.invariant-loop-witness
-invariant-loop-witness l = l.out.items ≡ l.fn.out.items ++ flat_map locals (take l.witness-index l.found)

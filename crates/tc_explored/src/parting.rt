@@ -1,0 +1,248 @@
+//! The first call of each run that differs in two witnesses.
+ghost use Rattle.std.specs.Prelude.{◌≡◌, ◌++◌, ◌∷◌, [], IfOk, OnOk, codes, option_copied, reverse};
+ghost use Rattle.std.specs.{List.flat_map, List.range_with_len};
+ghost use Rattle.tc_blocks.specs.Prelude.{entry_text};
+ghost use Rattle.tc_report.specs.Prelude.{names_in as spec_names, namings_of as spec_namings};
+ghost use Rattle.tc_explored.specs.Race as spec;
+
+use crate::race::{alike_count, append_entry};
+use std::alloc::Global;
+use tc_entry::{Comp, Entry, Name, Op, Reply};
+use tc_report::{Names, append_named_call, append_run_in, names_in, namings_of};
+use tc_rules::{ends_case, ends_pass, started_on};
+use tc_text::{append_number, append_shown, append_text};
+use tc_verdict::{NoMemory, Run};
+
+/// The first calls of a run that differ.
+#[derive(Drop)]
+pub(crate) struct Difference {
+    pub(crate) run: u16,
+    /// The number of these calls among those of the run, from 1 on.
+    pub(crate) call: usize,
+    pub(crate) left: Option<Entry>,
+    pub(crate) right: Option<Entry>,
+}
+
+// Adds the entry, if it is a call of the run that was not parked.
+fn add_call(calls: &mut Vec<Entry>, run: u16, entry: &Entry) -> Result<(), NoMemory>
+    ensures { OnOk result (calls.new.items ≡ calls.old.items ++ spec.calls (entry.now ∷ []) run) }
+{
+    if entry.caller.0 == run && !matches!(entry.reply, Reply::Parked) {
+        calls.push(entry.copy())?;
+    }
+    Ok(())
+}
+
+// The calls of a run, without those that were parked.
+fn calls_of(alloc: Global, history: &[Entry], run: u16) -> Result<Vec<Entry>, NoMemory>
+    ensures { IfOk result (λ v. v.items ≡ spec.calls history.now run) }
+{
+    let mut calls = Vec::new(alloc);
+    for entry in history {
+        add_call(&mut calls, run, entry)?;
+    }
+    Ok(calls)
+}
+
+// The first calls of a run that differ in two histories, if some do.
+fn difference_of(
+    alloc: Global,
+    left: &[Entry],
+    right: &[Entry],
+    run: u16,
+) -> Result<Option<Difference>, NoMemory>
+    ensures { IfOk result (λ d. d ≡ spec.difference left.now right.now run) }
+{
+    let one = calls_of(alloc, left, run)?;
+    let other = calls_of(alloc, right, run)?;
+    let at = alike_count(alloc, one.as_slice(), other.as_slice())?;
+    if at < one.len() || at < other.len() {
+        Ok(Some(Difference {
+            run,
+            call: at + 1,
+            left: one.as_slice().get(at).map(Entry::copy),
+            right: other.as_slice().get(at).map(Entry::copy),
+        }))
+    } else {
+        Ok(None)
+    }
+}
+
+// Whether the entry ends a run on this component, if it is on one.
+#[tactic(auto, unfolding(tc_rules::specs::History::ends_pass))]
+fn ends_run(run: u16, on: Option<Comp>, entry: &Entry) -> bool
+    ensures { result ≡ spec.ends_run run on entry.now }
+{
+    let Some(comp) = on else {
+        return false;
+    };
+    if entry.reply.is_ended() {
+        return false;
+    }
+    match entry.op {
+        Op::Finish if entry.caller.0 != run => ends_case(entry),
+        _ => ends_pass(comp, entry),
+    }
+}
+
+// The entry that ended a run, if one did.
+fn run_ended_by(history: &[Entry], run: u16) -> Option<&Entry>
+    ensures { option_copied result ≡ spec.run_ended_by (reverse history.now) run }
+{
+    let mut comp = if run == 0 { Some(Comp(0)) } else { None };
+    let mut ended = None;
+    for entry in history {
+        if ended.is_none() && ends_run(run, comp, entry) {
+            ended = Some(entry);
+        }
+        comp = comp.or(started_on(entry, run));
+    }
+    ended
+}
+
+// The entry that ended a run in this history, if the call is replied so.
+fn end_before<'a>(history: &'a [Entry], run: u16, call: &Option<Entry>) -> Option<&'a Entry>
+    ensures { option_copied result ≡ spec.end_before history.now run call.now }
+{
+    match call {
+        Some(entry) if entry.reply.is_ended() => run_ended_by(history, run),
+        _ => None,
+    }
+}
+
+// Appends a call in a test case with these names, or that it is not made.
+fn append_side(out: &mut Vec<u8>, names: &Names, call: &Option<Entry>) -> Result<(), NoMemory>
+    ensures { OnOk result (out.new.items ≡ out.old.items ++ spec.side_text names.now call.now) }
+{
+    match call {
+        Some(entry) => append_named_call(out, names, &entry.op, entry.reply),
+        None => append_text(out, "not made"),
+    }
+}
+
+// Appends that this entry ended a run on this side.
+fn append_end(out: &mut Vec<u8>, side: &str, entry: &Entry) -> Result<(), NoMemory>
+    ensures { OnOk result (out.new.items ≡ out.old.items
+        ++ (codes "; " ++ (side.now ++ (codes ": before it " ++ entry_text entry.now)))) }
+{
+    append_text(out, "; ")?;
+    append_text(out, side)?;
+    append_text(out, ": before it ")?;
+    append_entry(out, entry)?;
+    Ok(())
+}
+
+// Appends what ended a run on this side, if an entry did.
+fn append_before(out: &mut Vec<u8>, side: &str, end: Option<&Entry>) -> Result<(), NoMemory>
+    ensures { OnOk result (out.new.items ≡ out.old.items ++ spec.before_text side.now (option_copied end.entry)) }
+{
+    match end {
+        Some(entry) => append_end(out, side, entry),
+        None => Ok(()),
+    }
+}
+
+// Appends which call of which run it is.
+#[tactic(auto, unfolding(crate::specs::Race::which_call))]
+fn append_which(out: &mut Vec<u8>, names: &Names, run: u16, call: usize) -> Result<(), NoMemory>
+    ensures { OnOk result (out.new.items ≡ out.old.items ++ spec.which_call names.now run call) }
+{
+    append_text(out, " run ")?;
+    append_run_in(out, names, Run(run))?;
+    append_text(out, ": call ")?;
+    append_number(out, call as u64)?;
+    append_text(out, ": ")
+}
+
+// Appends where the calls of a run differ in two histories with these names.
+#[tactic(auto, unfolding(crate::specs::Race::sides_text))]
+fn append_sides(
+    out: &mut Vec<u8>,
+    left: &Names,
+    right: &Names,
+    difference: &Difference,
+) -> Result<(), NoMemory>
+    ensures { OnOk result (out.new.items ≡ out.old.items ++ spec.sides_text left.now right.now difference.now) }
+{
+    append_which(out, left, difference.run, difference.call)?;
+    append_side(out, left, &difference.left)?;
+    append_text(out, " | ")?;
+    append_side(out, right, &difference.right)
+}
+
+// Appends it by these names of behaviours.
+fn append_named_sides(
+    alloc: Global,
+    out: &mut Vec<u8>,
+    names: &[Name],
+    left: &[Entry],
+    right: &[Entry],
+    difference: &Difference,
+) -> Result<(), NoMemory>
+    ensures { OnOk result (out.new.items ≡ out.old.items ++ spec.sides_text (spec_names left.now (spec_namings names.now))
+        (spec_names right.now (spec_namings names.now)) difference.now) }
+{
+    let left = names_in(alloc, left, namings_of(alloc, names)?)?;
+    let right = names_in(alloc, right, namings_of(alloc, names)?)?;
+    append_sides(out, &left, &right, difference)
+}
+
+// Appends the line of a run whose calls differ.
+fn append_line(
+    alloc: Global,
+    out: &mut Vec<u8>,
+    names: &[Name],
+    left: &[Entry],
+    right: &[Entry],
+    difference: &Difference,
+) -> Result<(), NoMemory>
+    ensures { OnOk result (out.new.items ≡ out.old.items ++ spec.parting_line names.now left.now right.now difference.now) }
+{
+    let run = difference.run;
+    let mut text = Vec::new(alloc);
+    append_named_sides(alloc, &mut text, names, left, right, difference)?;
+    append_before(&mut text, "left", end_before(left, run, &difference.left))?;
+    append_before(
+        &mut text,
+        "right",
+        end_before(right, run, &difference.right),
+    )?;
+    append_shown(alloc, out, text.as_slice())
+}
+
+// Appends the line of a run, if its calls differ.
+fn append_parting(
+    alloc: Global,
+    out: &mut Vec<u8>,
+    names: &[Name],
+    left: &[Entry],
+    right: &[Entry],
+    run: u16,
+) -> Result<(), NoMemory>
+    ensures { OnOk result (out.new.items ≡ out.old.items ++ spec.parting names.now left.now right.now run) }
+{
+    match difference_of(alloc, left, right, run)? {
+        Some(difference) => append_line(alloc, out, names, left, right, &difference),
+        None => Ok(()),
+    }
+}
+
+/// Appends the line of each run whose calls differ in two histories, in a test case with these names of behaviours. If
+/// memory runs out, a part of them.
+#[tactic(auto, using(tc_course::proofs::Lemmas::next_of))]
+pub(crate) fn append_partings(
+    alloc: Global,
+    out: &mut Vec<u8>,
+    names: &[Name],
+    behaviours: u16,
+    left: &[Entry],
+    right: &[Entry],
+) -> Result<(), NoMemory>
+    ensures { OnOk result (out.new.items ≡ out.old.items
+        ++ flat_map (spec.parting names.now left.now right.now) (range_with_len 0 behaviours)) }
+{
+    for run in 0..behaviours {
+        append_parting(alloc, out, names, left, right, run)?;
+    }
+    Ok(())
+}

@@ -1,3 +1,0 @@
--- The definitions that the contracts of this crate cite.
-pub mod Engine
-pub use Rattle.tc_program.specs.Prelude as OfProgram

@@ -1,0 +1,75 @@
+//! What the dynamic error of a deciding call means.
+ghost use Rattle.std.specs.Prelude.{◌≡◌, ◌==◌, ◌&&◌, ◌++◌, OnOk, Some, None, codes, if◌then◌else◌, is_some, not, reverse};
+ghost use Rattle.tc_rules.specs.Prelude.{comp_of};
+ghost use Rattle.tc_report.specs.InWords.{run_in};
+ghost use Rattle.tc_report.specs.Meaning as spec;
+
+use crate::naming::{Names, append_run_in};
+use tc_entry::{Entry, Fault, NoMemory, Op, Reply, Run};
+use tc_rules::component_of;
+use tc_text::append_text;
+
+// The run, if this history started it.
+fn known(history: &[Entry], run: Run) -> Option<Run>
+    ensures { result ≡ (if not (run.0 == 0) && is_some (comp_of (reverse history.now) run.0) then Some run else None) }
+{
+    if run.0 != 0 && component_of(history, run).is_some() {
+        Some(run)
+    } else {
+        None
+    }
+}
+
+/// The run that a Start is refused since this history started it.
+pub(crate) fn started_before(history: &[Entry], entry: &Entry) -> Option<Run>
+    ensures { result ≡ spec.started_before (reverse history.now) entry.now.op entry.now.reply }
+{
+    match (&entry.op, entry.reply) {
+        (Op::Start { run, .. }, Reply::Fault(Fault::NoBehaviour)) => known(history, *run),
+        _ => None,
+    }
+}
+
+// What a dynamic error means.
+fn fault_words(fault: Fault) -> &'static str
+    ensures { result.now ≡ spec.fault_words fault }
+{
+    match fault {
+        Fault::NoComponent => ": a component that the call names does not exist",
+        Fault::NotMain => ": only run 0 may say any or all",
+        Fault::StartMain => ": the main component is never started",
+        Fault::AlreadyRunning => ": another run is running on the component",
+        Fault::NotStartable => ": the component is killed",
+        Fault::NoBehaviour => ": there is no such run to start",
+        Fault::TooMany => ": there are as many components as a test case may have",
+        Fault::Stuck => ": no run can continue",
+    }
+}
+
+// Appends that this run was started before; if memory runs out, a part of it.
+fn append_again(out: &mut Vec<u8>, names: &Names, run: Run) -> Result<(), NoMemory>
+    ensures { OnOk result (out.new.items ≡ out.old.items ++ (codes ": run " ++ (run_in names.now run.0
+        ++ codes " was started before: a behaviour is started at most once"))) }
+{
+    let last = " was started before: a behaviour is started at most once";
+    append_text(out, ": run ")?;
+    append_run_in(out, names, run)?;
+    append_text(out, last)
+}
+
+/// Appends what a reply means, after a colon, if it is a dynamic error: that this run was started before, if there is one.
+/// If memory runs out, a part of it.
+pub(crate) fn append_meaning(
+    out: &mut Vec<u8>,
+    names: &Names,
+    again: Option<Run>,
+    reply: Reply,
+) -> Result<(), NoMemory>
+    ensures { OnOk result (out.new.items ≡ out.old.items ++ spec.meaning_text names.now again reply) }
+{
+    match (again, reply) {
+        (Some(run), _) => append_again(out, names, run),
+        (None, Reply::Fault(fault)) => append_text(out, fault_words(fault)),
+        (None, _) => Ok(()),
+    }
+}

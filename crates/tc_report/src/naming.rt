@@ -1,0 +1,269 @@
+//! How reports for people name components, runs and calls.
+ghost use Rattle.std.specs.Prelude.{◌≡◌, ◌++◌, ◌∷◌, [], IfOk, OnOk, codes, if◌then◌else◌, option_copied};
+ghost use Rattle.std.specs.{List.flat_map, Option.option_map_or};
+ghost use Rattle.tc_report.specs.Report.{shown_op};
+ghost use Rattle.tc_report.specs.InWords as spec;
+
+use std::alloc::Global;
+use tc_entry::{Comp, Entry, Group, Name, NoMemory, Op, Reply, Run, Sequence, Target};
+use tc_text::{append_number, append_text, write_op, write_reply};
+
+/// The name of the behaviour that a run has.
+#[derive(Drop)]
+pub struct Naming {
+    /// The number of the run.
+    pub run: usize,
+    /// The name of its behaviour.
+    pub name: Name,
+}
+
+/// The names that a test case has.
+#[derive(Drop)]
+pub struct Names {
+    /// Those of its components by their numbers; the main component has none.
+    pub comps: Sequence<Option<Name>>,
+    /// Those of its behaviours.
+    pub runs: Sequence<Naming>,
+}
+
+/// These names of behaviours, that of run 0 first.
+pub fn namings_of(alloc: Global, names: &[Name]) -> Result<Vec<Naming>, NoMemory>
+    ensures { IfOk result (λ v. v.items ≡ spec.namings_of names.now) }
+{
+    Ok(
+        names
+            .iter()
+            .enumerate()
+            .map(|(run, name)| Naming {
+                run,
+                name: name.copy(),
+            })
+            .collect(alloc)?,
+    )
+}
+
+// The name at this place, if there is one.
+fn name_at(names: &[Option<Name>], place: usize) -> Option<&Name>
+    ensures { option_copied result ≡ spec.name_at names.now place }
+{
+    match names.get(place) {
+        Some(name) => name.as_ref(),
+        None => None,
+    }
+}
+
+/// The name of the behaviour of a run, if it has one.
+pub(crate) fn behaviour_of(runs: &[Naming], run: usize) -> Option<&Name>
+    ensures { option_copied result ≡ spec.behaviour_of runs.now run }
+{
+    match runs.iter().find(|naming| naming.run == run) {
+        Some(naming) => Some(&naming.name),
+        None => None,
+    }
+}
+
+// Appends a name after a space, if there is one; if memory runs out, a part of it.
+fn append_name(out: &mut Vec<u8>, name: Option<&Name>) -> Result<(), NoMemory>
+    ensures { OnOk result (out.new.items ≡ out.old.items ++ option_map_or (λ n. 32 ∷ n) (option_copied name.entry) []) }
+{
+    let Some(name) = name else {
+        return Ok(());
+    };
+    out.push(b' ')?;
+    out.extend_from_slice(name.bytes())?;
+    Ok(())
+}
+
+// Appends a number, and a name if there is one; if memory runs out, a part of it.
+#[tactic(auto, unfolding(crate::specs::InWords::numbered))]
+fn append_numbered(out: &mut Vec<u8>, number: u64, name: Option<&Name>) -> Result<(), NoMemory>
+    ensures { OnOk result (out.new.items ≡ out.old.items ++ spec.numbered number (option_copied name.entry)) }
+{
+    append_number(out, number)?;
+    append_name(out, name)
+}
+
+/// Appends a component: the main one as mtc, others by their number and name. If memory runs out, a part of it.
+pub fn append_component(out: &mut Vec<u8>, comp: u64, name: Option<&Name>) -> Result<(), NoMemory>
+    ensures { OnOk result (out.new.items ≡ out.old.items ++ spec.component_text comp (option_copied name.entry)) }
+{
+    if comp == 0 {
+        return append_text(out, "mtc");
+    }
+    append_numbered(out, comp, name)
+}
+
+/// Appends the component at this place among these names. If memory runs out, a part of it.
+pub(crate) fn append_place(
+    out: &mut Vec<u8>,
+    names: &[Option<Name>],
+    comp: usize,
+) -> Result<(), NoMemory>
+    ensures { OnOk result (out.new.items ≡ out.old.items ++ spec.component_text comp (spec.name_at names.now comp)) }
+{
+    append_component(out, comp as u64, name_at(names, comp))
+}
+
+/// Appends a component by these names. If memory runs out, a part of it.
+pub fn append_component_in(out: &mut Vec<u8>, names: &Names, comp: Comp) -> Result<(), NoMemory>
+    ensures { OnOk result (out.new.items ≡ out.old.items ++ spec.component_in names.now comp.0) }
+{
+    append_place(out, names.comps.as_slice(), comp.0 as usize)
+}
+
+/// Appends a run, and the name of its behaviour if it has one. If memory runs out, a part of it.
+pub fn append_run_in(out: &mut Vec<u8>, names: &Names, run: Run) -> Result<(), NoMemory>
+    ensures { OnOk result (out.new.items ≡ out.old.items ++ spec.run_in names.now run.0) }
+{
+    let name = behaviour_of(names.runs.as_slice(), usize::from(run.0));
+    append_numbered(out, u64::from(run.0), name)
+}
+
+// What a Stop or a Kill is of, as a target.
+fn as_target(group: Group) -> Target
+    ensures { result ≡ spec.as_target group }
+{
+    match group {
+        Group::One(comp) => Target::One(comp),
+        Group::All => Target::All,
+    }
+}
+
+/// Appends which component is meant. If memory runs out, a part of it.
+pub(crate) fn append_target_in(
+    out: &mut Vec<u8>,
+    names: &Names,
+    target: Target,
+) -> Result<(), NoMemory>
+    ensures { OnOk result (out.new.items ≡ out.old.items ++ spec.target_in names.now target) }
+{
+    match target {
+        Target::One(comp) => append_component_in(out, names, comp),
+        Target::Any => append_text(out, "any"),
+        Target::All => append_text(out, "all"),
+    }
+}
+
+// Appends the components that are handed to a run, after the first word; if memory runs out, a part of them.
+fn append_args_in(
+    out: &mut Vec<u8>,
+    names: &Names,
+    first: &str,
+    comps: &[Comp],
+) -> Result<(), NoMemory>
+    ensures { OnOk result (out.new.items ≡ out.old.items ++ spec.args_in names.now first.now comps.now) }
+{
+    let Some((comp, rest)) = comps.split_first() else {
+        return Ok(());
+    };
+    append_text(out, first)?;
+    append_component_in(out, names, *comp)?;
+    append_args_in(out, names, " ", rest)
+}
+
+// Appends a Start; if memory runs out, a part of it.
+fn append_start_in(
+    out: &mut Vec<u8>,
+    names: &Names,
+    comp: Comp,
+    run: Run,
+    comps: &[Comp],
+) -> Result<(), NoMemory>
+    ensures { OnOk result (out.new.items ≡ out.old.items ++ (codes "start " ++ (spec.component_in names.now comp.0
+        ++ (codes " run " ++ (spec.run_in names.now run.0 ++ spec.args_in names.now (codes " with ") comps.now))))) }
+{
+    append_text(out, "start ")?;
+    append_component_in(out, names, comp)?;
+    append_text(out, " run ")?;
+    append_run_in(out, names, run)?;
+    append_args_in(out, names, " with ", comps)
+}
+
+// Appends words, and which component is meant; if memory runs out, a part of it.
+fn append_about(
+    out: &mut Vec<u8>,
+    names: &Names,
+    words: &str,
+    target: Target,
+) -> Result<(), NoMemory>
+    ensures { OnOk result (out.new.items ≡ out.old.items ++ (words.now ++ spec.target_in names.now target)) }
+{
+    append_text(out, words)?;
+    append_target_in(out, names, target)
+}
+
+// The first words of a Wait.
+fn wait_words(killed: bool) -> &'static str
+    ensures { result.now ≡ (if killed then codes "wait killed " else codes "wait done ") }
+{
+    if killed { "wait killed " } else { "wait done " }
+}
+
+// Appends a call; a Wake is shown as the Wait with the same target. If memory runs out, a part of it.
+#[tactic(auto, unfolding(crate::specs::InWords::named_op))]
+fn append_named_op(out: &mut Vec<u8>, names: &Names, op: &Op) -> Result<(), NoMemory>
+    ensures { OnOk result (out.new.items ≡ out.old.items ++ spec.named_op names.now (shown_op op.now)) }
+{
+    match op {
+        Op::Start { comp, run, args } => append_start_in(out, names, *comp, *run, args.as_slice()),
+        Op::Stop(group) => append_about(out, names, "stop ", as_target(*group)),
+        Op::Kill(group) => append_about(out, names, "kill ", as_target(*group)),
+        Op::Running(target) => append_about(out, names, "running ", *target),
+        Op::Alive(target) => append_about(out, names, "alive ", *target),
+        Op::Done(target) => append_about(out, names, "done ", *target),
+        Op::Killed(target) => append_about(out, names, "killed ", *target),
+        Op::Wait { killed, target } | Op::Wake { killed, target } => {
+            append_about(out, names, wait_words(*killed), *target)
+        }
+        Op::Create { .. } | Op::StopCase | Op::SetVerdict(_) | Op::GetVerdict | Op::Finish => {
+            write_op(out, op)
+        }
+    }
+}
+
+/// Appends a call and its reply, with names next to numbers. If memory runs out, a part of it.
+#[tactic(auto, unfolding(crate::specs::InWords::named_call))]
+pub fn append_named_call(
+    out: &mut Vec<u8>,
+    names: &Names,
+    op: &Op,
+    reply: Reply,
+) -> Result<(), NoMemory>
+    ensures { OnOk result (out.new.items ≡ out.old.items ++ spec.named_call names.now op.now reply) }
+{
+    append_named_op(out, names, op)?;
+    append_text(out, " -> ")?;
+    write_reply(out, &reply)
+}
+
+// Appends the line of an entry after this front: nothing if it was parked. If memory runs out, a part of it.
+fn append_named_entry(
+    out: &mut Vec<u8>,
+    front: &str,
+    names: &Names,
+    entry: &Entry,
+) -> Result<(), NoMemory>
+    ensures { OnOk result (out.new.items ≡ out.old.items ++ spec.named_entry front.now names.now entry.now) }
+{
+    if matches!(entry.reply, Reply::Parked) {
+        return Ok(());
+    }
+    append_text(out, front)?;
+    append_named_call(out, names, &entry.op, entry.reply)?;
+    append_text(out, "\n")
+}
+
+/// Appends the line of each entry after this front. If memory runs out, a part of them.
+pub(crate) fn append_named_entries(
+    out: &mut Vec<u8>,
+    front: &str,
+    names: &Names,
+    entries: &[Entry],
+) -> Result<(), NoMemory>
+    ensures { OnOk result (out.new.items ≡ out.old.items ++ flat_map (spec.named_entry front.now names.now) entries.now) }
+{
+    for entry in entries {
+        append_named_entry(out, front, names, entry)?;
+    }
+    Ok(())
+}

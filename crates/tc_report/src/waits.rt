@@ -1,0 +1,184 @@
+//! Which runs wait as no run can continue, and for whom.
+ghost use Rattle.std.specs.Prelude.{◌≡◌, ◌≤◌, ◌++◌, [], IfOk, List, OnOk, codes, if◌then◌else◌, reverse};
+ghost use Rattle.std.specs.Option.{option_map_or};
+ghost use Rattle.tc_entry.specs.declared.limits.TheConstants.{BEHAVIOURS as MOST_BEHAVIOURS};
+ghost use Rattle.tc_rules.specs.Prelude.{Entry as AnyEntry, StandsFor, comp_of, is_active, waiting};
+ghost use Rattle.tc_report.specs.{InWords.component_in, InWords.run_in, Inside.IsBeforeStuck};
+ghost use Rattle.tc_report.specs.Waits as spec;
+
+use crate::naming::{Names, append_component_in, append_run_in, append_target_in};
+use std::alloc::Global;
+use tc_entry::{BEHAVIOURS, Comp, Entry, Fault, NoMemory, Phase, Reply, Run, Target};
+use tc_rules::{Awaited, CaseState};
+use tc_text::append_text;
+
+// Whether the reply says that no run can continue.
+fn says_stuck(reply: Reply) -> bool
+    ensures { result ≡ spec.says_stuck reply }
+{
+    matches!(reply, Reply::Fault(Fault::Stuck))
+}
+
+// The state of a test case of that many behaviours before the first of these calls that it replies to so, if there is
+// one.
+fn state_before_stuck(
+    alloc: Global,
+    behaviours: u16,
+    history: &[Entry],
+) -> Result<Option<CaseState>, NoMemory>
+    requires some { 1 ≤ behaviours }
+    requires few { behaviours ≤ MOST_BEHAVIOURS }
+    ensures { IfOk result (IsBeforeStuck behaviours (reverse history.now)) }
+{
+    let mut state = CaseState::new(alloc, behaviours)?;
+    for entry in history {
+        if says_stuck(state.would(entry.caller, &entry.op)) {
+            return Ok(Some(state));
+        }
+        state.play(entry.caller, entry.op.copy())?;
+    }
+    Ok(None)
+}
+
+// Appends that a component runs this run; if memory runs out, a part of it.
+fn append_running(out: &mut Vec<u8>, names: &Names, run: Run) -> Result<(), NoMemory>
+    ensures { OnOk result (out.new.items ≡ out.old.items
+        ++ (codes ", where run " ++ (run_in names.now run.0 ++ codes " is"))) }
+{
+    append_text(out, ", where run ")?;
+    append_run_in(out, names, run)?;
+    append_text(out, " is")
+}
+
+// Appends what a component is doing that is waited for; if memory runs out, a part of it.
+fn append_phase(out: &mut Vec<u8>, names: &Names, phase: Option<Phase>) -> Result<(), NoMemory>
+    ensures { OnOk result (out.new.items ≡ out.old.items ++ spec.phase_words names.now phase) }
+{
+    match phase {
+        None => Ok(()),
+        Some(Phase::Inactive) => append_text(out, ", not started"),
+        Some(Phase::Stopped) => append_text(out, ", stopped"),
+        Some(Phase::Killed) => append_text(out, ", killed"),
+        Some(Phase::Running(run)) => append_running(out, names, run),
+    }
+}
+
+// What a component is doing in a state, if one is waited for.
+fn phase_of(state: &CaseState, target: Target) -> Option<Phase>
+    ensures { (past : List AnyEntry) → StandsFor state.now past → result ≡ spec.awaited_phase past target }
+{
+    match target {
+        Target::One(comp) => state.phase_of(comp),
+        Target::Any | Target::All => None,
+    }
+}
+
+// Appends what is waited for, in this phase, and the end of the line; if memory runs out, a part of it.
+#[tactic(auto, unfolding(crate::specs::Waits::awaited_words))]
+fn append_awaited(
+    out: &mut Vec<u8>,
+    names: &Names,
+    awaited: Awaited,
+    phase: Option<Phase>,
+) -> Result<(), NoMemory>
+    ensures { OnOk result (out.new.items ≡ out.old.items ++ spec.awaited_words names.now awaited phase) }
+{
+    let words = if awaited.killed {
+        " waits for killed of "
+    } else {
+        " waits for done of "
+    };
+    append_text(out, words)?;
+    append_target_in(out, names, awaited.target)?;
+    append_phase(out, names, phase)?;
+    append_text(out, "\n")
+}
+
+// Appends which run waits, and on which component; if memory runs out, a part of it.
+fn append_who(out: &mut Vec<u8>, names: &Names, run: Run, comp: Comp) -> Result<(), NoMemory>
+    ensures { OnOk result (out.new.items ≡ out.old.items ++ (codes "  stuck: run "
+        ++ (run_in names.now run.0 ++ (codes " on " ++ component_in names.now comp.0)))) }
+{
+    append_text(out, "  stuck: run ")?;
+    append_run_in(out, names, run)?;
+    append_text(out, " on ")?;
+    append_component_in(out, names, comp)
+}
+
+// Appends the line of a run, if it is active and waits; if memory runs out, a part of it.
+fn append_wait_of(
+    out: &mut Vec<u8>,
+    names: &Names,
+    state: &CaseState,
+    run: Run,
+) -> Result<(), NoMemory>
+    ensures { (past : List AnyEntry) → StandsFor state.now past
+        → OnOk result (out.new.items ≡ out.old.items ++ (if is_active past run.0
+        then spec.wait_line names.now past run.0 (comp_of past run.0) (waiting past run.0) else [])) }
+{
+    let Some(comp) = state.active_on(run) else {
+        return Ok(());
+    };
+    let Some(awaited) = state.parked(run) else {
+        return Ok(());
+    };
+    append_who(out, names, run, comp)?;
+    append_awaited(out, names, awaited, phase_of(state, awaited.target))
+}
+
+// The lines of all runs that are active and wait.
+#[tactic(auto, using(crate::proofs::Waiting::next_of))]
+fn waits_after(
+    alloc: Global,
+    names: &Names,
+    behaviours: u16,
+    state: &CaseState,
+) -> Result<Vec<u8>, NoMemory>
+    ensures { (past : List AnyEntry) → StandsFor state.now past
+        → IfOk result (λ v. v.items ≡ spec.waits_after names.now behaviours past) }
+{
+    let mut out = Vec::new(alloc);
+    for run in 0..behaviours {
+        append_wait_of(&mut out, names, state, Run(run))?;
+    }
+    Ok(out)
+}
+
+// The lines of the runs that wait before the first of these calls that a test case of that many behaviours replies to
+// so; none if there is no such call.
+fn waits_of(
+    alloc: Global,
+    names: &Names,
+    behaviours: u16,
+    history: &[Entry],
+) -> Result<Vec<u8>, NoMemory>
+    requires some { 1 ≤ behaviours }
+    requires few { behaviours ≤ MOST_BEHAVIOURS }
+    ensures { IfOk result (λ v. v.items
+        ≡ option_map_or (spec.waits_after names.now behaviours) (spec.before_stuck behaviours (reverse history.now)) []) }
+{
+    match state_before_stuck(alloc, behaviours, history)? {
+        Some(state) => waits_after(alloc, names, behaviours, &state),
+        None => Ok(Vec::new(alloc)),
+    }
+}
+
+/// Appends who waits for whom as a test case of that many behaviours, 1 to 256, that plays these calls first replies that
+/// no run can continue; nothing if it never does. If memory runs out, a part of it.
+#[tactic(auto, unfolding(crate::specs::Waits::waits_text))]
+pub fn append_waits(
+    alloc: Global,
+    out: &mut Vec<u8>,
+    names: &Names,
+    behaviours: u16,
+    history: &[Entry],
+) -> Result<(), NoMemory>
+    ensures { OnOk result (out.new.items ≡ out.old.items ++ spec.waits_text names.now behaviours history.now) }
+{
+    let count = usize::from(behaviours);
+    if 1 <= count && count <= BEHAVIOURS {
+        let lines = waits_of(alloc, names, behaviours, history)?;
+        out.extend_from_slice(lines.as_slice())?;
+    }
+    Ok(())
+}
