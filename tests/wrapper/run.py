@@ -397,13 +397,14 @@ class Stops(Tree):
         for number in (signal.SIGINT, signal.SIGTERM, signal.SIGHUP):
             before = len(self.calls())
             started = self.start("a", FAKE_PAUSE_tc_high="50", FAKE_PAUSE_tc_aside="50")
-            wait_for(lambda: sum(it.startswith("lib") for it in self.calls()[before:]) >= 2, "two crates are being built")
+            # Work that an earlier round kept lies in a tree before the rt runs, so each rt must have said that it does.
+            wait_for(lambda: {"tc_high", "tc_aside"} <= {it.split()[1] for it in self.calls()[before:]}, "two crates are being built")
             wait_for(lambda: all(os.path.exists(f"{building}/{it}/crates/{it}/out/incremental/kept") for it in ("tc_high", "tc_aside")),
                      "both keep work in the trees of the build")
             began = time.monotonic()
             started.send_signal(number)
             ran = ended(started)
-            hold(ran.status == -number and time.monotonic() - began < 10, f"{number!r}: {ran}")
+            hold(ran.status == -number and time.monotonic() - began < 30, f"{number!r}: {ran}")
             hold(ran.output == b"" and ran.lines()[-1].startswith("ttrun: stopped"), f"{number!r}: {ran}")
             same(["ended tc_aside", "ended tc_high"], sorted(self.calls()[-2:]), f"{number!r} does not end rt")
             same(["whole", "begun", "begun"], self.kept("tc_low", "tc_high", "tc_aside"), "what is kept of what was done")
