@@ -2,36 +2,46 @@
 use crate::nearest::near_word;
 use crate::places::start_of;
 use crate::quote::{SHOWN, quoted_begin, quoted_rest};
+use crate::scan::Opened;
+use crate::sort::Refusal;
 use std::alloc::Global;
 use tc_entry::NAME_BYTES;
-use tc_text::{append_number, append_text};
+use tc_text::append_text;
 use tc_verdict::NoMemory;
 
-/// A line of a text, and its words.
+/// The first fault of a text, and what is around it.
 #[derive(Clone, Copy)]
-pub(crate) struct Line<'l> {
-    pub(crate) bytes: &'l [u8],
-    pub(crate) words: &'l [&'l [u8]],
+pub(crate) struct Around<'t> {
+    /// The text.
+    pub(crate) text: &'t [u8],
+    /// What the text should be, and the kind of the fault.
+    pub(crate) refusal: Refusal,
+    /// The number of the line with the fault.
+    pub(crate) number: usize,
+    /// What is open before it.
+    pub(crate) opened: Opened,
+    /// Whether the text seems to be of TTCN-3.
+    pub(crate) in_source: bool,
 }
 
-/// Lines that help.
+/// The line with the fault, and lines that help with it.
 #[derive(Drop)]
-pub(crate) struct Help {
+pub(crate) struct Help<'l> {
     pub(crate) alloc: Global,
+    pub(crate) around: Around<'l>,
+    /// The line.
+    pub(crate) line: &'l [u8],
+    /// Its words.
+    pub(crate) words: &'l [&'l [u8]],
+    /// The lines that help.
     pub(crate) text: Vec<u8>,
 }
 
-impl Help {
+impl Help<'_> {
     /// Adds a line.
     pub(crate) fn add_line(&mut self, text: &str) -> Result<(), NoMemory> {
         append_text(&mut self.text, text)?;
         append_text(&mut self.text, "\n")
-    }
-
-    /// Adds a number and what is before it, to the line that comes.
-    pub(crate) fn begin(&mut self, before: &str, number: usize) -> Result<(), NoMemory> {
-        append_text(&mut self.text, before)?;
-        append_number(&mut self.text, number as u64)
     }
 
     /// Adds a line of a number and what is before and after it.
@@ -41,78 +51,70 @@ impl Help {
         number: usize,
         after: &str,
     ) -> Result<(), NoMemory> {
-        self.begin(before, number)?;
-        self.add_line(after)
+        self.add_line(format!(in self.alloc; "{before}{number}{after}")?.as_str())
     }
 
     /// Adds the column that comes after that many bytes, and what is wrong there.
     pub(crate) fn add_column(&mut self, start: usize, what: &str) -> Result<(), NoMemory> {
-        self.begin("column ", start.saturating_add(1))?;
-        append_text(&mut self.text, ": ")?;
-        self.add_line(what)
+        let line = format!(in self.alloc; "column {}: {what}", start.saturating_add(1))?;
+        self.add_line(line.as_str())
     }
 
-    /// Adds the word at a place of a line, with its column, if there is one.
-    pub(crate) fn add_word(&mut self, line: Line, place: usize) -> Result<(), NoMemory> {
-        let Some(word) = line.words.get(place) else {
+    /// Adds the word at a place of the line, with its column, if there is one.
+    pub(crate) fn add_word(&mut self, place: usize) -> Result<(), NoMemory> {
+        let Some(word) = self.words.get(place) else {
             return Ok(());
         };
-        self.begin("column ", start_of(line.bytes, place).saturating_add(1))?;
-        append_text(&mut self.text, ": ")?;
-        self.text
-            .extend_from_slice(quoted_begin(self.alloc, word)?.as_slice())?;
-        self.text
-            .extend_from_slice(quoted_rest(self.alloc, word)?.as_slice())?;
-        append_text(&mut self.text, "\n")
+        let column = start_of(self.line, place).saturating_add(1);
+        let head = format!(in self.alloc; "column {column}: ")?;
+        append_text(&mut self.text, head.as_str())?;
+        let text = &mut self.text;
+        text.extend_from_slice(quoted_begin(self.alloc, word)?.as_slice())?;
+        text.extend_from_slice(quoted_rest(self.alloc, word)?.as_slice())?;
+        append_text(text, "\n")
     }
 
-    /// Adds a line that ends with a word.
-    pub(crate) fn add_named(&mut self, head: &str, word: &[u8]) -> Result<(), NoMemory> {
-        append_text(&mut self.text, head)?;
-        append_text(&mut self.text, " ")?;
-        self.text.extend_from_slice(word)?;
-        append_text(&mut self.text, "\n")
+    /// Adds a line of these words, and of what is before and after them.
+    pub(crate) fn add_words(
+        &mut self,
+        before: &str,
+        words: &[&[u8]],
+        after: &str,
+    ) -> Result<(), NoMemory> {
+        append_text(&mut self.text, before)?;
+        for word in words {
+            append_text(&mut self.text, " ")?;
+            self.text.extend_from_slice(word)?;
+        }
+        self.add_line(after)
     }
 
     /// Adds the one of these words that is the nearest to a word, if one is near. Whether one is.
     pub(crate) fn add_near(&mut self, word: &[u8], words: &[&[u8]]) -> Result<bool, NoMemory> {
         match near_word(self.alloc, word, words)? {
-            Some(near) => self.add_named("nearest:", near)?,
+            Some(near) => self.add_words("nearest:", &[near], "")?,
             None => return Ok(false),
         }
         Ok(true)
     }
 
-    // Adds each of these after a space, to the line that comes.
-    fn add_spaced(&mut self, words: &[&[u8]]) -> Result<(), NoMemory> {
-        for word in words {
-            append_text(&mut self.text, " ")?;
-            self.text.extend_from_slice(word)?;
-        }
-        Ok(())
-    }
-
     /// Adds the words that would be understood, and what else would; one of both may be empty.
     pub(crate) fn add_expected(&mut self, words: &[&[u8]], other: &str) -> Result<(), NoMemory> {
-        append_text(&mut self.text, "expected:")?;
-        self.add_spaced(words)?;
-        append_text(&mut self.text, if words.is_empty() { " " } else { "" })?;
-        self.add_line(other)
+        let space = if words.is_empty() { " " } else { "" };
+        let other = format!(in self.alloc; "{space}{other}")?;
+        self.add_words("expected:", words, other.as_str())
     }
 
     /// Adds a line of the first names, that many that they are shown as a line is.
     pub(crate) fn add_names(&mut self, head: &str, names: &[&[u8]]) -> Result<(), NoMemory> {
-        append_text(&mut self.text, head)?;
         let mut room = SHOWN;
         for (count, name) in names.iter().enumerate() {
             if name.len() >= room {
-                self.add_spaced(names.get(..count).unwrap_or(names))?;
-                return self.add_line(" ..");
+                return self.add_words(head, names.get(..count).unwrap_or(names), " ..");
             }
             room -= name.len() + 1;
         }
-        self.add_spaced(names)?;
-        append_text(&mut self.text, "\n")
+        self.add_words(head, names, "")
     }
 
     /// Adds what a name may have.

@@ -1,32 +1,29 @@
 //! What helps if a name of a script is wrong.
-use crate::help::{Help, Line};
+use crate::help::Help;
 use crate::names::{Given, Names, given_as, no_names};
 use tc_entry::ARGUMENTS;
 use tc_reader::{Keyword, ScriptKind, is_word, read_keyword, read_name};
 use tc_verdict::NoMemory;
 
 // Adds the nearest of the names or of the other words; if none is near, the names under this head, or that there is none.
-fn add_near(
+fn add_near<'n>(
     help: &mut Help,
     word: &[u8],
-    given: &[Given],
-    others: &[&[u8]],
+    given: &[Given<'n>],
+    others: &[&'n [u8]],
     (head, none): (&str, &str),
 ) -> Result<(), NoMemory> {
-    let mut names = Vec::new(help.alloc);
+    let mut words = Vec::new(help.alloc);
     for one in given {
-        names.push(one.name)?;
+        words.push(one.name)?;
     }
-    let mut all = Vec::new(help.alloc);
-    all.extend_from_slice(names.as_slice())?;
-    all.extend_from_slice(others)?;
-    if help.add_near(word, all.as_slice())? {
+    words.extend_from_slice(others)?;
+    if help.add_near(word, words.as_slice())? {
         return Ok(());
     }
-    if names.is_empty() {
-        help.add_line(none)
-    } else {
-        help.add_names(head, names.as_slice())
+    match words.as_slice().get(..given.len()) {
+        Some([]) | None => help.add_line(none),
+        Some(names) => help.add_names(head, names),
     }
 }
 
@@ -59,8 +56,11 @@ fn add_elsewhere(help: &mut Help, names: &Names, word: &[u8]) -> Result<(), NoMe
     }
     match given_as(names.behaviours.as_slice(), word) {
         Some(one) => {
-            let rest = ", and no component";
-            help.add_counted("it names the behaviour in line ", one.line, rest)
+            help.add_counted(
+                "it names the behaviour in line ",
+                one.line,
+                ", and no component",
+            )
         }
         None => Ok(()),
     }
@@ -79,50 +79,56 @@ fn others_of(keyword: Option<Keyword>) -> &'static [&'static [u8]] {
 }
 
 // Adds which name is not bound, and the nearest that is.
-fn add_unbound(help: &mut Help, names: &Names, line: Line) -> Result<(), NoMemory> {
+fn add_unbound(help: &mut Help, names: &Names) -> Result<(), NoMemory> {
     let bound = names.bound.as_slice();
-    let keyword = line.words.first().and_then(|word| read_keyword(word));
-    let found = keyword.and_then(|keyword| unbound(keyword, bound, line.words));
+    let keyword = help.words.first().and_then(|word| read_keyword(word));
+    let found = keyword.and_then(|keyword| unbound(keyword, bound, help.words));
     if let Some((place, _)) = found {
-        help.add_word(line, place)?;
+        help.add_word(place)?;
     }
     help.add_line("a component is named by a parameter, or by a create above")?;
+    let Some((_, word)) = found else {
+        return Ok(());
+    };
+    add_elsewhere(help, names, word)?;
     let told = ("bound there:", "no name is bound there");
-    match found {
-        Some((_, word)) => {
-            add_elsewhere(help, names, word)?;
-            add_near(help, word, bound, others_of(keyword), told)
-        }
-        None => Ok(()),
-    }
+    add_near(help, word, bound, others_of(keyword), told)
 }
 
 // Adds which behaviour there is not, and the nearest that there is and that may be started.
-fn add_unknown(help: &mut Help, names: &Names, line: Line) -> Result<(), NoMemory> {
-    help.add_word(line, 2)?;
+fn add_unknown(help: &mut Help, names: &Names) -> Result<(), NoMemory> {
+    help.add_word(2)?;
     help.add_line("a start names a behaviour of its test case")?;
     let started = names.behaviours.as_slice().get(1..).unwrap_or(&[]);
     let told = (
         "behaviours after the first:",
         "the test case has only its first behaviour",
     );
-    match line.words.get(2) {
+    match help.words.get(2) {
         Some(word) => add_near(help, word, started, &[], told),
         None => Ok(()),
     }
 }
 
 // Adds how many arguments there are, and how many there should be.
-fn add_arguments(help: &mut Help, names: &Names, words: &[&[u8]]) -> Result<(), NoMemory> {
+fn add_arguments(help: &mut Help, names: &Names) -> Result<(), NoMemory> {
     help.add_line("a start gives as many arguments as the behaviour has parameters")?;
-    let [_, _, name, arguments @ ..] = words else {
+    let [_, _, name, arguments @ ..] = help.words else {
         return Ok(());
     };
     match given_as(names.behaviours.as_slice(), name) {
-        Some(behaviour) => {
-            help.begin("", arguments.len())?;
-            help.begin(" given, ", behaviour.parameters)?;
-            help.add_counted(" wanted by the behaviour in line ", behaviour.line, "")
+        Some(
+            Given {
+                line,
+                parameters,
+                ..
+            },
+        ) => {
+            let given = arguments.len();
+            let text = format!(in help.alloc;
+                "{given} given, {parameters} wanted by the behaviour in line {line}"
+            )?;
+            help.add_line(text.as_str())
         }
         None => Ok(()),
     }
@@ -139,12 +145,6 @@ fn twice_parameter(words: &[&[u8]]) -> Option<usize> {
     None
 }
 
-// The first of these with this name, if it is above the line.
-fn line_above(given: &[Given], name: &[u8], line: usize) -> Option<usize> {
-    let first = given_as(given, name)?.line;
-    (first < line).then_some(first)
-}
-
 // The place of the name of a line that is given already, and the line that gives it first.
 fn twice(names: &Names, number: usize, words: &[&[u8]]) -> Option<(usize, usize)> {
     let [keyword, name, ..] = words else {
@@ -155,17 +155,17 @@ fn twice(names: &Names, number: usize, words: &[&[u8]]) -> Option<(usize, usize)
         Some(Keyword::Behaviour) => names.behaviours.as_slice(),
         _ => names.bound.as_slice(),
     };
-    match line_above(given, name, number) {
-        Some(first) => Some((1, first)),
-        None => twice_parameter(words).map(|place| (place, number)),
+    match given_as(given, name) {
+        Some(one) if one.line < number => Some((1, one.line)),
+        _ => twice_parameter(words).map(|place| (place, number)),
     }
 }
 
 // Adds which name is given already, and where.
-fn add_twice(help: &mut Help, names: &Names, number: usize, line: Line) -> Result<(), NoMemory> {
-    let found = twice(names, number, line.words);
+fn add_twice(help: &mut Help, names: &Names) -> Result<(), NoMemory> {
+    let found = twice(names, help.around.number, help.words);
     if let Some((place, _)) = found {
-        help.add_word(line, place)?;
+        help.add_word(place)?;
     }
     help.add_line(
         "a name is given once: to a test case of the script, a behaviour of the test case, a component of the behaviour",
@@ -176,37 +176,25 @@ fn add_twice(help: &mut Help, names: &Names, number: usize, line: Line) -> Resul
     }
 }
 
-// Adds what is wrong with a name of a line among these names.
-fn add_named_wrong(
-    help: &mut Help,
-    kind: ScriptKind,
-    names: &Names,
-    number: usize,
-    line: Line,
-) -> Result<(), NoMemory> {
+// Adds what is wrong with a name of the line among these names.
+fn add_named_wrong(help: &mut Help, kind: ScriptKind, names: &Names) -> Result<(), NoMemory> {
     match kind {
-        ScriptKind::Twice => add_twice(help, names, number, line),
-        ScriptKind::NoReference => add_unbound(help, names, line),
-        ScriptKind::UnknownBehaviour => add_unknown(help, names, line),
-        _ => add_arguments(help, names, line.words),
+        ScriptKind::Twice => add_twice(help, names),
+        ScriptKind::NoReference => add_unbound(help, names),
+        ScriptKind::UnknownBehaviour => add_unknown(help, names),
+        _ => add_arguments(help, names),
     }
 }
 
-/// Adds what is wrong with a name of a line, whose number is given.
-pub(crate) fn add_naming(
-    help: &mut Help,
-    kind: ScriptKind,
-    text: &[u8],
-    number: usize,
-    line: Line,
-) -> Result<(), NoMemory> {
+/// Adds what is wrong with a name of the line.
+pub(crate) fn add_naming(help: &mut Help, kind: ScriptKind) -> Result<(), NoMemory> {
     if kind == ScriptKind::MainParameters {
-        help.add_word(line, 2)?;
+        help.add_word(2)?;
         return help.add_line(
             "the first behaviour of a test case is started by nobody, who could give it arguments",
         );
     }
     let mut names = no_names(help.alloc);
-    names.read(help.alloc, text, number)?;
-    add_named_wrong(help, kind, &names, number, line)
+    names.read(help.alloc, help.around.text, help.around.number)?;
+    add_named_wrong(help, kind, &names)
 }

@@ -6,28 +6,11 @@ use strsim::generic_damerau_levenshtein;
 use tc_entry::NAME_BYTES;
 use tc_verdict::NoMemory;
 
-// A word, and how many edits lead to it.
-#[derive(Clone, Copy)]
-struct Near<'t> {
-    word: &'t [u8],
-    distance: usize,
-}
-
-// Whether only capital letters distinguish the words.
-fn is_alike(word: &[u8], other: &[u8]) -> bool {
-    word.len() == other.len()
-        && word.iter().zip(other.iter()).all(|(one, two)| one.to_ascii_lowercase()
-            == two.to_ascii_lowercase())
-}
-
 // How many edits lead from one word to the other: a letter more, less or another, two that are swapped, or capital letters.
 fn edits(alloc: Global, word: &[u8], other: &[u8]) -> Result<usize, NoMemory> {
-    let distance = generic_damerau_levenshtein(alloc, word, other)?;
-    Ok(if is_alike(word, other) {
-        distance.min(1)
-    } else {
-        distance
-    })
+    let is_alike = word.eq_ignore_ascii_case(other);
+    let most = if is_alike { 1 } else { usize::MAX };
+    Ok(generic_damerau_levenshtein(alloc, word, other)?.min(most))
 }
 
 // Whether the bytes may be a name, a keyword or a reply.
@@ -36,22 +19,18 @@ fn is_plain_word(word: &[u8]) -> bool {
         && word.iter().all(|byte| byte.is_ascii_alphanumeric() || *byte == b'_' || *byte == b'-')
 }
 
-// The word of least distance in the table, and the first of them.
+// The word of the table to which the fewest edits lead, the first of them, and how many.
 fn nearest<'t>(
     alloc: Global,
     word: &[u8],
     table: &[&'t [u8]],
-) -> Result<Option<Near<'t>>, NoMemory> {
-    let mut found: Option<Near<'t>> = None;
+) -> Result<Option<(&'t [u8], usize)>, NoMemory> {
+    let mut found: Option<(&'t [u8], usize)> = None;
     for other in table {
         let distance = edits(alloc, word, other)?;
-        found = match found {
-            Some(near) if near.distance <= distance => Some(near),
-            _ => Some(Near {
-                word: other,
-                distance,
-            }),
-        };
+        if found.is_none_or(|(_, least)| distance < least) {
+            found = Some((other, distance));
+        }
     }
     Ok(found)
 }
@@ -72,8 +51,6 @@ pub(crate) fn near_word<'t>(
     if !is_plain_word(word) {
         return Ok(None);
     }
-    match nearest(alloc, word, table)? {
-        Some(near) if is_near(word, near.distance) => Ok(Some(near.word)),
-        _ => Ok(None),
-    }
+    let near = nearest(alloc, word, table)?.filter(|(_, distance)| is_near(word, *distance));
+    Ok(near.map(|(word, _)| word))
 }

@@ -11,26 +11,19 @@ use tc_verdict::NoMemory;
 /// How many bytes of a line or a word are shown.
 pub const SHOWN: usize = 60;
 
-// The hexadecimal digit of this value.
-fn digit(value: u8) -> u8
-    requires { value < 16 }
-{
-    if value >= 10 { value + 55 } else { value + 48 }
-}
-
 // Appends a byte by its two hexadecimal digits.
 fn append_hex(out: &mut Vec<u8>, byte: u8) -> Result<(), NoMemory> {
-    out.extend_from_slice(&[b'\\', b'x', digit(byte / 16), digit(byte % 16)])?;
-    Ok(())
+    let alloc = *out.allocator();
+    append_text(out, format!(in alloc; "\\x{byte:02X}")?.as_str())
 }
 
 // Appends what is shown of a byte.
 fn append_byte(out: &mut Vec<u8>, byte: u8) -> Result<(), NoMemory> {
-    if is_plain(byte) {
-        out.push(byte)?;
-        return Ok(());
+    if !is_plain(byte) {
+        return append_hex(out, byte);
     }
-    append_hex(out, byte)
+    out.push(byte)?;
+    Ok(())
 }
 
 // What of a line or a word is shown: of a long one the first bytes.

@@ -197,7 +197,7 @@ impl Slot {
         matches!(self, Slot::Keyword | Slot::Verb | Slot::Reply | Slot::Error)
     }
 
-    /// The words that may be there, besides names and numbers.
+    /// Those words.
     pub(crate) fn words(self, alloc: Global) -> Result<Vec<&'static [u8]>, NoMemory> {
         let mut words = Vec::new(alloc);
         read_words(self.text_of_words().as_bytes(), &mut words)?;
@@ -205,16 +205,16 @@ impl Slot {
     }
 }
 
-/// The slots of the first words of a line, which may be where they are, and the one after them.
+/// The slots of the first words of a line of a text of this sort, which may be where they are, and the one after them.
 #[derive(Drop)]
 pub(crate) struct Walk {
+    pub(crate) sort: Sort,
     pub(crate) slots: Vec<Slot>,
     pub(crate) last: Slot,
 }
 
 impl Walk {
-    /// The slots of the words of a line of a text of this sort, the first of which is at this one, as far as each may be
-    /// where it is.
+    /// The slots of these words, the first of which is at this one, as far as each may be where it is.
     pub(crate) fn new(
         alloc: Global,
         sort: Sort,
@@ -225,16 +225,16 @@ impl Walk {
         let mut last = first;
         for word in words {
             let Some(next) = last.after(sort, word) else {
-                return Ok(Walk { slots, last });
+                return Ok(Walk { sort, slots, last });
             };
             slots.push(last)?;
             last = next;
         }
-        Ok(Walk { slots, last })
+        Ok(Walk { sort, slots, last })
     }
 
     /// Whether the words are a line.
-    pub(crate) fn is_whole(&self, sort: Sort, words: &[&[u8]]) -> bool {
-        words.len() <= self.slots.len() && self.last.ends_line(sort)
+    pub(crate) fn is_whole(&self, words: &[&[u8]]) -> bool {
+        words.len() <= self.slots.len() && self.last.ends_line(self.sort)
     }
 }

@@ -321,21 +321,21 @@ fn translated(alloc: Global, tokens: &[&[u8]]) -> Result<Vec<u8>, NoMemory> {
 fn add_instead(help: &mut Help, tokens: &[&[u8]]) -> Result<(), NoMemory> {
     let line = translated(help.alloc, plain(tokens))?;
     if line.len() <= LONGEST && is_line(help.alloc, line.as_slice())? {
-        return help.add_named("in a script:", line.as_slice());
+        return help.add_words("in a script:", &[line.as_slice()], "");
     }
     let otherwise = "a line of a script is one call, in words without ( ) { } ; and :=";
     let found = tokens.iter().find_map(|token| absent(token));
     help.add_line(found.unwrap_or(otherwise))
 }
 
-/// Adds what a script has instead of a line that seems to be of TTCN-3. Whether it does.
-pub(crate) fn add_source(help: &mut Help, seen: bool, line: &[u8]) -> Result<bool, NoMemory> {
+/// Adds what a script has instead of the line, if it seems to be of TTCN-3. Whether it does.
+pub(crate) fn add_source(help: &mut Help) -> Result<bool, NoMemory> {
     let mut tokens = Vec::new(help.alloc);
-    read_tokens(line, &mut tokens)?;
+    read_tokens(help.line, &mut tokens)?;
     if !is_source(tokens.as_slice()) {
         return Ok(false);
     }
-    if !seen {
+    if !help.around.in_source {
         help.add_line("the line looks like TTCN-3, which ttrun does not read")?;
     }
     add_instead(help, tokens.as_slice())?;

@@ -4,7 +4,8 @@ ghost use Rattle.std.specs.{Fmt.decimal, List.position, Option.option_map_or};
 ghost use Rattle.tc_text.specs.Prelude.{TellsAmong, TellsLine, is_plain};
 ghost use Rattle.tc_explain.specs.Explanation.{explanation, line_note, open_note, quoted};
 
-use crate::hints::{Around, hints};
+use crate::help::Around;
+use crate::hints::hints;
 use crate::nearest::near_word;
 use crate::quote::{append_odd, odd_place, quoted_begin, quoted_rest};
 use crate::scan::{Opened, find_line};
@@ -16,137 +17,111 @@ use tc_verdict::NoMemory;
 
 // Appends the lines of a text.
 #[tactic(auto, using(tc_text::proofs::Lemmas::Among::among_rules))]
-fn append_lines(alloc: Global, out: &mut Vec<u8>, text: &[u8]) -> Result<(), NoMemory>
+fn append_lines(out: &mut Vec<u8>, text: &[u8]) -> Result<(), NoMemory>
     ensures { OnOk result (TellsAmong [] out.old.items out.new.items) }
 {
     let mut rest = Lines::new(text);
     while let Some(line) = rest.next() {
-        append_parts(alloc, out, &[Part::Text(line)])?;
+        append_parts(*out.allocator(), out, &[Part::Text(line)])?;
     }
     Ok(())
 }
 
 // Appends a line with this number after a text.
-fn append_numbered(
-    alloc: Global,
-    out: &mut Vec<u8>,
-    head: &str,
-    number: usize,
-) -> Result<(), NoMemory>
+fn append_numbered(out: &mut Vec<u8>, head: &str, number: usize) -> Result<(), NoMemory>
     ensures { OnOk result (TellsLine (decimal number ∷ []) out.old.items out.new.items) }
 {
     let head = Part::Text(head.as_bytes());
-    append_parts(alloc, out, &[head, Part::Number(number as u64)])
+    append_parts(*out.allocator(), out, &[head, Part::Number(number as u64)])
 }
 
 // Appends what the text seems to be, if it should be something else.
 #[tactic(auto, using(tc_text::proofs::Lemmas::Among::among_rules))]
-fn append_sort(
-    alloc: Global,
-    out: &mut Vec<u8>,
-    sort: Sort,
-    seen: Option<Sort>,
-) -> Result<(), NoMemory>
+fn append_sort(out: &mut Vec<u8>, sort: Sort, seen: Option<Sort>) -> Result<(), NoMemory>
     ensures { OnOk result (TellsAmong [] out.old.items out.new.items) }
 {
     match seen {
-        Some(seen) if seen != sort => append_lines(alloc, out, seen.text().as_bytes()),
+        Some(seen) if seen != sort => append_lines(out, seen.text().as_bytes()),
         _ => Ok(()),
     }
 }
 
 // Appends the line in quotation.
-fn append_shown(alloc: Global, out: &mut Vec<u8>, line: &[u8]) -> Result<(), NoMemory>
+fn append_shown(out: &mut Vec<u8>, line: &[u8]) -> Result<(), NoMemory>
     ensures { OnOk result (TellsLine (quoted line.now ∷ []) out.old.items out.new.items) }
 {
+    let alloc = *out.allocator();
     let begin = quoted_begin(alloc, line)?;
     let rest = quoted_rest(alloc, line)?;
-    let shown = Part::Word(begin.as_slice());
-    append_parts(
-        alloc,
-        out,
-        &[Part::Text(b"line:"), shown, Part::Text(rest.as_slice())],
-    )
+    let shown = [
+        Part::Text(b"line:"),
+        Part::Word(begin.as_slice()),
+        Part::Text(rest.as_slice()),
+    ];
+    append_parts(alloc, out, &shown)
 }
 
 // Appends the column of the odd byte after that many, and what it is.
-fn append_odd_at(alloc: Global, out: &mut Vec<u8>, line: &[u8], at: usize) -> Result<(), NoMemory>
+fn append_odd_at(out: &mut Vec<u8>, line: &[u8], at: usize) -> Result<(), NoMemory>
     requires { at < length line.now }
     ensures { OnOk result (TellsLine (decimal (at + 1) ∷ []) out.old.items out.new.items) }
 {
+    let alloc = *out.allocator();
     let mut what = Vec::new(alloc);
     append_odd(&mut what, &line[at..])?;
     let number = Part::Number(at as u64 + 1);
-    let head = Part::Text(b"column");
+    let what = Part::Text(what.as_slice());
     append_parts(
         alloc,
         out,
-        &[head, number, Part::Text(b":"), Part::Text(what.as_slice())],
+        &[Part::Text(b"column"), number, Part::Text(b":"), what],
     )
 }
 
 // Appends that the text ends before the line with this number.
 #[tactic(auto, using(tc_text::proofs::Lemmas::Among::among_rules))]
-fn append_ended(alloc: Global, out: &mut Vec<u8>, number: usize) -> Result<(), NoMemory>
+fn append_ended(out: &mut Vec<u8>, number: usize) -> Result<(), NoMemory>
     ensures { OnOk result (TellsAmong [] out.old.items out.new.items) }
 {
     if number <= 1 {
-        return append_lines(alloc, out, b"the text is empty");
+        return append_lines(out, b"the text is empty");
     }
-    append_numbered(alloc, out, "the text ends after line", number - 1)
+    append_numbered(out, "the text ends after line", number - 1)
 }
 
 // Appends what else helps with the line, or with the end of the text before it.
-fn append_hints(
-    alloc: Global,
-    out: &mut Vec<u8>,
-    refusal: Refusal,
-    around: Around,
-    line: Option<&[u8]>,
-) -> Result<(), NoMemory>
+fn append_hints(out: &mut Vec<u8>, around: Around, line: Option<&[u8]>) -> Result<(), NoMemory>
     ensures { OnOk result (TellsAmong [] out.old.items out.new.items) }
 {
-    let hints = hints(alloc, refusal, around, line)?;
-    append_lines(alloc, out, hints.as_slice())
+    let hints = hints(*out.allocator(), around, line)?;
+    append_lines(out, hints.as_slice())
 }
 
 // Appends what is wrong with a line: an odd byte, or what its words are not.
 #[tactic(auto, using(tc_text::proofs::Lemmas::Among::among_rules))]
-fn append_wrong(
-    alloc: Global,
-    out: &mut Vec<u8>,
-    refusal: Refusal,
-    around: Around,
-    line: &[u8],
-) -> Result<(), NoMemory>
+fn append_wrong(out: &mut Vec<u8>, around: Around, line: &[u8]) -> Result<(), NoMemory>
     ensures { OnOk result (TellsAmong (option_map_or (λ at. (decimal (at + 1) ∷ []) ∷ []) (position (λ b. not (is_plain b)) line.now) [])
         out.old.items out.new.items) }
 {
     match odd_place(line) {
-        Some(at) => append_odd_at(alloc, out, line, at),
-        None => append_hints(alloc, out, refusal, around, Some(line)),
+        Some(at) => append_odd_at(out, line, at),
+        None => append_hints(out, around, Some(line)),
     }
 }
 
 // Appends the line with its fault, or that the text ends before it, and what helps.
 #[tactic(auto, using(tc_text::proofs::Lemmas::Among::among_rules))]
-fn append_line(
-    alloc: Global,
-    out: &mut Vec<u8>,
-    refusal: Refusal,
-    around: Around,
-    line: Option<&[u8]>,
-) -> Result<(), NoMemory>
+fn append_line(out: &mut Vec<u8>, around: Around, line: Option<&[u8]>) -> Result<(), NoMemory>
     ensures { OnOk result (TellsAmong (option_map_or line_note (option_copied line.entry) []) out.old.items out.new.items) }
 {
     match line {
         None => {
-            append_ended(alloc, out, around.number)?;
-            append_hints(alloc, out, refusal, around, None)
+            append_ended(out, around.number)?;
+            append_hints(out, around, None)
         }
         Some(line) => {
-            append_shown(alloc, out, line)?;
-            append_wrong(alloc, out, refusal, around, line)
+            append_shown(out, line)?;
+            append_wrong(out, around, line)
         }
     }
 }
@@ -161,20 +136,15 @@ fn begun(sort: Sort) -> &'static str {
 
 // Appends what is open.
 #[tactic(auto, using(tc_text::proofs::Lemmas::Among::among_rules))]
-fn append_opened(
-    alloc: Global,
-    out: &mut Vec<u8>,
-    sort: Sort,
-    opened: Opened,
-) -> Result<(), NoMemory>
+fn append_opened(out: &mut Vec<u8>, sort: Sort, opened: Opened) -> Result<(), NoMemory>
     ensures { OnOk result (TellsAmong (open_note opened) out.old.items out.new.items) }
 {
     match opened {
         Opened::Nothing => Ok(()),
-        Opened::Begun(outer, _) => append_numbered(alloc, out, begun(sort), outer),
+        Opened::Begun(outer, _) => append_numbered(out, begun(sort), outer),
         Opened::Inside(outer, inner) => {
-            append_numbered(alloc, out, "a behaviour began in line", inner)?;
-            append_numbered(alloc, out, begun(sort), outer)
+            append_numbered(out, "a behaviour began in line", inner)?;
+            append_numbered(out, begun(sort), outer)
         }
     }
 }
@@ -198,14 +168,15 @@ pub fn explain(
     let found = find_line(alloc, text, number)?;
     let around = Around {
         text,
+        refusal,
         number,
         opened: found.opened,
         in_source: matches!(seen, Some(Sort::Source)),
     };
     let mut out = Vec::new(alloc);
-    append_sort(alloc, &mut out, sort, seen)?;
-    append_line(alloc, &mut out, refusal, around, found.line)?;
-    append_opened(alloc, &mut out, sort, found.opened)?;
+    append_sort(&mut out, sort, seen)?;
+    append_line(&mut out, around, found.line)?;
+    append_opened(&mut out, sort, found.opened)?;
     Ok(out)
 }
 
