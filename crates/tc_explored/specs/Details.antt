@@ -37,15 +37,14 @@ waits_for_own step = false
 abbrev pub lasts_until_killed : ℕ → List Step → Bool
 lasts_until_killed k steps = (length steps == k + 1) && waits_for_own (slice_get steps k)
 
--- a step of run b, after k others, of n, that is not carried out
-abbrev pub unseen_text : ℕ → ℕ → ℕ → Step → List ℕ
-unseen_text b k n s =
-    (codes " not seen: run " ++ (decimal b ++ (codes " from step " ++ (decimal (k + 1) ++ (codes " of " ++ decimal n))))) ++ (codes " on: " ++ step_text s)
+-- which step of run b is not carried out, after k others, of n
+unfoldable pub unseen_place : ℕ → ℕ → ℕ → List ℕ
+unseen_place b k n = codes " not seen: run " ++ (decimal b ++ (codes " from step " ++ (decimal (k + 1) ++ (codes " of " ++ (decimal n ++ codes " on: ")))))
 
 -- the first step of run b that is not carried out, where k of these are, unless it continues until it is killed
 unfoldable pub unseen_among : ℕ → ℕ → List Step → List ℕ
 unseen_among b k steps =
-    if lasts_until_killed k steps then [] else option_map_or (λ s. shown_line (unseen_text b k (length steps) s)) (slice_get steps k) []
+    if lasts_until_killed k steps then [] else option_map_or (λ s. shown_line (unseen_place b k (length steps) ++ step_text s)) (slice_get steps k) []
 
 -- the same of all runs of these scripts, of which that many calls are reached
 unfoldable pub unseen : List ScriptView → List ℕ → List ℕ

@@ -62,9 +62,9 @@ side_text names call = option_map_or (λ e. named_call names e.op e.reply) call 
 abbrev pub end_before : List Entry → ℕ → Option Entry → Option Entry
 end_before history b call = if option_map_or (λ e. is_ended e.reply) call false then run_ended_by (reverse history) b else None
 
--- what ended a run on this side
+-- what ended a run, after these words
 abbrev pub before_text : List ℕ → Option Entry → List ℕ
-before_text side end = option_map_or (λ e. codes "; " ++ (side ++ (codes ": before it " ++ entry_text e))) end []
+before_text words end = option_map_or (λ e. words ++ entry_text e) end []
 
 -- which call of which run it is
 unfoldable pub which_call : Names → ℕ → ℕ → List ℕ
@@ -78,7 +78,7 @@ sides_text left right d = which_call left d.run d.call ++ (side_text left d.left
 abbrev pub parting_line : List (List ℕ) → List Entry → List Entry → Difference → List ℕ
 parting_line names left right d =
     shown_line (sides_text (names_in left (namings_of names)) (names_in right (namings_of names)) d
-    ++ (before_text (codes "left") (end_before left d.run d.left) ++ before_text (codes "right") (end_before right d.run d.right)))
+    ++ (before_text (codes "; left: before it ") (end_before left d.run d.left) ++ before_text (codes "; right: before it ") (end_before right d.run d.right)))
 
 -- the line of run b, if its calls differ
 abbrev pub parting : List (List ℕ) → List Entry → List Entry → ℕ → List ℕ

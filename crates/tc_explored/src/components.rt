@@ -1,28 +1,29 @@
 //! The local verdicts of a witness.
-ghost use Rattle.std.specs.Prelude.{◌≡◌, ◌==◌, ◌≤◌, ◌++◌, [], ◌∷◌, OnOk, flat_map, reverse};
-ghost use Rattle.std.specs.{List.range_with_len, Option.option_map_or};
+ghost use Rattle.std.specs.{Prelude.{◌≡◌, ◌==◌, ◌≤◌, ◌++◌, [], ◌∷◌, IfOk, OnOk, flat_map, reverse}, List.range_with_len, Option.option_map_or};
 ghost use Rattle.tc_entry.specs.declared.limits.TheConstants.{BEHAVIOURS};
 ghost use Rattle.tc_rules.specs.Prelude.{components, IsLegal, StandsFor, name_of as verdict_name};
 ghost use Rattle.tc_explored.specs.Details.{local_words, locals as about_locals};
 
-use crate::state::state_after;
 use std::alloc::Global;
 use tc_course::Witness;
 use tc_entry::{Comp, Entry};
 use tc_report::{Names, append_component_in};
-use tc_rules::CaseState;
+use tc_rules::{CaseState, CheckFault, replay};
 use tc_text::{append_shown, append_text};
-use tc_verdict::{NoMemory, Verdict, name as name_of};
+use tc_verdict::{NoMemory, name as name_of};
 
-// Appends a local verdict after a space; if memory runs out, a part of it.
-fn append_verdict(out: &mut Vec<u8>, local: Option<Verdict>) -> Result<(), NoMemory>
-    ensures { OnOk result (out.new.items ≡ out.old.items ++ option_map_or (λ v. 32 ∷ verdict_name v) local []) }
+// The state of a case after these entries.
+fn state_after(alloc: Global, behaviours: u16, entries: &[Entry]) -> Result<CaseState, NoMemory>
+    requires some { 1 ≤ behaviours }
+    requires few { behaviours ≤ BEHAVIOURS }
+    requires legal { IsLegal behaviours (reverse entries.now) }
+    ensures { IfOk result (λ s. StandsFor s (reverse entries.now)) }
 {
-    let Some(verdict) = local else {
-        return Ok(());
-    };
-    out.push(b' ')?;
-    append_text(out, name_of(verdict))
+    match replay(alloc, behaviours, entries) {
+        Ok(state) => Ok(state),
+        Err(CheckFault::NoMemory) => Err(NoMemory),
+        Err(CheckFault::Differs { .. }) => unreachable!(),
+    }
 }
 
 // Appends a component and its local verdict, in the state at the end of the history; if memory runs out, a part of it.
@@ -38,7 +39,11 @@ fn append_local(
 {
     append_text(out, if comp == 0 { ": " } else { ", " })?;
     append_component_in(out, names, Comp(comp))?;
-    append_verdict(out, state.local(Comp(comp)))
+    let Some(verdict) = state.local(Comp(comp)) else {
+        return Ok(());
+    };
+    append_text(out, " ")?;
+    append_text(out, name_of(verdict))
 }
 
 // Appends the components with their local verdicts, in the state at the end of the history; if memory runs out, a part
@@ -64,7 +69,6 @@ fn append_locals(
 /// memory runs out, a part of it.
 #[tactic(auto, unfolding(crate::specs::Details::locals))]
 pub(crate) fn append_locals_line(
-    alloc: Global,
     out: &mut Vec<u8>,
     names: &Names,
     behaviours: u16,
@@ -75,10 +79,10 @@ pub(crate) fn append_locals_line(
     requires legal { IsLegal behaviours (reverse witness.now.history) }
     ensures { OnOk result (out.new.items ≡ out.old.items ++ about_locals names.now witness.now) }
 {
-    let state = state_after(alloc, behaviours, witness.history.as_slice())?;
-    let mut text = Vec::new(alloc);
-    text.push(b' ')?;
-    append_text(&mut text, name_of(witness.verdict))?;
-    append_locals(&mut text, names, witness.history.as_slice(), &state)?;
+    let alloc = *out.allocator();
+    let history = witness.history.as_slice();
+    let state = state_after(alloc, behaviours, history)?;
+    let mut text = format!(in alloc; " {}", name_of(witness.verdict))?.into_bytes();
+    append_locals(&mut text, names, history, &state)?;
     append_shown(alloc, out, text.as_slice())
 }

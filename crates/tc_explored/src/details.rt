@@ -1,6 +1,5 @@
 //! What the details say of a test case that was explored.
-ghost use Rattle.std.specs.Prelude.{◌≡◌, ◌≤◌, ◌++◌, ◌∷◌, All, OnOk, codes, length, reverse};
-ghost use Rattle.std.specs.List.{flat_map};
+ghost use Rattle.std.specs.{Prelude.{◌≡◌, ◌≤◌, ◌++◌, ◌∷◌, All, OnOk, codes, length, reverse}, List.flat_map};
 ghost use Rattle.tc_entry.specs.declared.limits.TheConstants.{BEHAVIOURS};
 ghost use Rattle.tc_course.specs.Prelude.{AreLegal};
 ghost use Rattle.tc_report.specs.Prelude.{decided_text, waits_text};
@@ -18,21 +17,10 @@ use tc_report::{
     CaseEnd, Cause, Names, append_decision, append_waits, cause_of, names_in, namings_of,
 };
 use tc_step::Script;
-use tc_text::{append_shown, append_text};
+use tc_text::append_shown;
 use tc_verdict::{NoMemory, Verdict, name as name_of};
 
-// Appends a verdict and a colon; if memory runs out, a part of them.
-fn append_head(out: &mut Vec<u8>, verdict: Verdict) -> Result<(), NoMemory>
-    ensures { OnOk result (out.new.items ≡ out.old.items ++ (32 ∷ (verdict_name verdict ++ codes ": "))) }
-{
-    out.push(b' ')?;
-    append_text(out, name_of(verdict))?;
-    append_text(out, ": ")
-}
-
-// Appends the line of a verdict, and what decided it; if memory runs out, a part of it.
 fn append_decided_line(
-    alloc: Global,
     out: &mut Vec<u8>,
     names: &Names,
     verdict: Verdict,
@@ -41,32 +29,26 @@ fn append_decided_line(
     ensures { OnOk result (out.new.items ≡ out.old.items
         ++ shown_line ((32 ∷ (verdict_name verdict ++ codes ": ")) ++ decided_text names.now cause.now)) }
 {
-    let mut text = Vec::new(alloc);
-    append_head(&mut text, verdict)?;
+    let alloc = *out.allocator();
+    let mut text = format!(in alloc; " {}: ", name_of(verdict))?.into_bytes();
     append_decision(&mut text, names, cause)?;
     append_shown(alloc, out, text.as_slice())
 }
 
 // Appends what decided the verdict of a witness, if it is worse than pass; if memory runs out, a part of it.
 #[tactic(auto, unfolding(crate::specs::Details::decided))]
-fn append_decided(
-    alloc: Global,
-    out: &mut Vec<u8>,
-    names: &Names,
-    witness: &Witness,
-) -> Result<(), NoMemory>
+fn append_decided(out: &mut Vec<u8>, names: &Names, witness: &Witness) -> Result<(), NoMemory>
     ensures { OnOk result (out.new.items ≡ out.old.items ++ spec.decided names.now witness.now) }
 {
     let ending = CaseEnd::Over(witness.verdict);
-    match cause_of(alloc, ending, &[], witness.history.as_slice())? {
-        Some(cause) => append_decided_line(alloc, out, names, witness.verdict, &cause),
+    match cause_of(*out.allocator(), ending, &[], witness.history.as_slice())? {
+        Some(cause) => append_decided_line(out, names, witness.verdict, &cause),
         None => Ok(()),
     }
 }
 
 // Appends the lines of a witness with these names; if memory runs out, a part of them.
 fn append_lines(
-    alloc: Global,
     out: &mut Vec<u8>,
     names: &Names,
     behaviours: u16,
@@ -78,14 +60,14 @@ fn append_lines(
     ensures { OnOk result (out.new.items ≡ out.old.items ++ (spec.locals names.now witness.now
         ++ (spec.decided names.now witness.now ++ waits_text names.now behaviours witness.now.history))) }
 {
-    append_locals_line(alloc, out, names, behaviours, witness)?;
-    append_decided(alloc, out, names, witness)?;
-    append_waits(alloc, out, names, behaviours, witness.history.as_slice())
+    append_locals_line(out, names, behaviours, witness)?;
+    append_decided(out, names, witness)?;
+    let history = witness.history.as_slice();
+    append_waits(*out.allocator(), out, names, behaviours, history)
 }
 
 // Appends the lines of a witness with these names of behaviours; if memory runs out, a part of them.
 fn append_witness(
-    alloc: Global,
     out: &mut Vec<u8>,
     names: &[Name],
     behaviours: u16,
@@ -96,13 +78,12 @@ fn append_witness(
     requires legal { IsLegal behaviours (reverse witness.now.history) }
     ensures { OnOk result (out.new.items ≡ out.old.items ++ spec.witness_text names.now behaviours witness.now) }
 {
+    let alloc = *out.allocator();
     let names = names_in(alloc, witness.history.as_slice(), namings_of(alloc, names)?)?;
-    append_lines(alloc, out, &names, behaviours, witness)
+    append_lines(out, &names, behaviours, witness)
 }
 
-// Appends the lines of each witness; if memory runs out, a part of them.
 fn append_each(
-    alloc: Global,
     out: &mut Vec<u8>,
     names: &[Name],
     behaviours: u16,
@@ -114,7 +95,7 @@ fn append_each(
     ensures { OnOk result (out.new.items ≡ out.old.items ++ flat_map (spec.witness_text names.now behaviours) found.now) }
 {
     for witness in found {
-        append_witness(alloc, out, names, behaviours, witness)?;
+        append_witness(out, names, behaviours, witness)?;
     }
     Ok(())
 }
@@ -141,10 +122,10 @@ pub fn append_details(
     }
     let behaviours = scripts.len() as u16;
     let found = explored.found.as_slice();
-    append_each(alloc, out, names, behaviours, found)?;
-    append_races(alloc, out, names, behaviours, found)?;
+    append_each(out, names, behaviours, found)?;
+    append_races(out, names, behaviours, found)?;
     match explored.ending {
-        Ending::Complete => append_unseen(alloc, out, scripts, explored.reached.as_slice()),
+        Ending::Complete => append_unseen(out, scripts, explored.reached.as_slice()),
         Ending::Undecided(_) => Ok(()),
     }
 }

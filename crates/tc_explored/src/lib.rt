@@ -7,7 +7,6 @@ mod line;
 mod locals;
 mod parting;
 mod race;
-mod state;
 mod steps;
 mod unseen;
 mod verdicts;

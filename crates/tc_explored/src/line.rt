@@ -1,6 +1,5 @@
 //! What is printed about a test case that was explored.
-ghost use Rattle.std.specs.Prelude.{◌≡◌, ◌==◌, ◌≤◌, ◌++◌, IfOk, OnOk, codes, if◌then◌else◌, length, nat_lt};
-ghost use Rattle.std.specs.Fmt.{decimal};
+ghost use Rattle.std.specs.Prelude.{◌≡◌, ◌==◌, ◌≤◌, ◌++◌, IfOk, OnOk, if◌then◌else◌, length, nat_lt, string_bytes};
 ghost use Rattle.tc_course.specs.Prelude.{is_found as is_found_among};
 ghost use Rattle.tc_explored.specs.Line as line;
 
@@ -10,73 +9,49 @@ use tc_blocks::Header;
 use tc_course::{Ending, Explored, Limit, Witness, is_found};
 use tc_entry::Name;
 use tc_report::append_named_block;
-use tc_text::{append_number, append_text};
+use tc_text::append_text;
 use tc_verdict::{NoMemory, Verdict};
 
-// The verdicts that were found.
 #[tactic(auto, unfolding(crate::specs::Line::verdicts_where))]
 fn verdicts_of(alloc: Global, found: &[Witness]) -> Result<Vec<Verdict>, NoMemory>
     ensures { IfOk result (λ v. v.items ≡ line.verdicts_where (is_found_among found.now)) }
 {
-    Ok(
-        VERDICTS
-            .iter()
-            .copied()
-            .filter(|verdict| is_found(found, *verdict))
-            .collect(alloc)?,
-    )
+    let verdicts = VERDICTS.iter().copied();
+    let found = verdicts.filter(|verdict| is_found(found, *verdict));
+    Ok(found.collect(alloc)?)
 }
 
-// How many verdicts were found.
 #[tactic(auto, unfolding(crate::specs::Line::verdicts_where))]
 fn count_of(found: &[Witness]) -> usize
     ensures { result ≡ length (line.verdicts_where (is_found_among found.now)) }
 {
-    VERDICTS
-        .iter()
-        .filter(|verdict| is_found(found, **verdict))
-        .count()
+    VERDICTS.iter().filter(|one| is_found(found, **one)).count()
 }
 
-// Appends after how many states a search met its limit, and these words of the limit; if memory runs out, a part of it.
-fn append_undecided(out: &mut Vec<u8>, states: usize, words: &str) -> Result<(), NoMemory>
-    ensures { OnOk result (out.new.items ≡ out.old.items ++ (codes " undecided after " ++ (decimal states ++ words.now))) }
+// How the search ended.
+fn ending_words(alloc: Global, ending: Ending, states: usize) -> Result<String, NoMemory>
+    ensures { IfOk result (λ words. string_bytes words ≡ line.ending_words ending states) }
 {
-    append_text(out, " undecided after ")?;
-    append_number(out, states as u64)?;
-    append_text(out, words)
-}
-
-// Appends how the search ended; if memory runs out, a part of it.
-fn append_ending(out: &mut Vec<u8>, ending: Ending, states: usize) -> Result<(), NoMemory>
-    ensures { OnOk result (out.new.items ≡ out.old.items ++ line.ending_words ending states) }
-{
-    match ending {
-        Ending::Complete => append_text(out, " complete"),
+    Ok(match ending {
+        Ending::Complete => format!(in alloc; " complete")?,
         Ending::Undecided(Limit::States) => {
-            append_undecided(out, states, " states: limit of states")
+            format!(in alloc; " undecided after {states} states: limit of states")?
         }
         Ending::Undecided(Limit::Memory) => {
-            append_undecided(out, states, " states: limit of memory")
+            format!(in alloc; " undecided after {states} states: limit of memory")?
         }
-    }
+    })
 }
 
 // The status of a complete search that found these.
 fn found_status(found: &[Witness]) -> u8
     ensures { result ≡ line.found_status found.now }
 {
-    let count = count_of(found);
-    if count == 1 {
-        if is_found(found, Verdict::Error) {
-            2
-        } else {
-            0
-        }
-    } else if 1 < count {
-        1
-    } else {
-        3
+    match count_of(found) {
+        0 => 3,
+        1 if is_found(found, Verdict::Error) => 2,
+        1 => 0,
+        _ => 1,
     }
 }
 
@@ -104,9 +79,9 @@ pub fn append_line(
     let verdicts = verdicts_of(alloc, explored.found.as_slice())?;
     out.extend_from_slice(name.bytes())?;
     append_names(out, " ", verdicts.as_slice())?;
-    append_ending(out, explored.ending, explored.states)?;
-    out.push(b'\n')?;
-    Ok(())
+    let ending = ending_words(alloc, explored.ending, explored.states)?;
+    append_text(out, ending.as_str())?;
+    append_text(out, "\n")
 }
 
 /// Appends a block with this first line for each witness, with these names of behaviours. If memory runs out, a part of

@@ -1,6 +1,5 @@
 //! What is printed of the local verdicts that the components of a test case may have.
-ghost use Rattle.std.specs.Prelude.{◌≡◌, ◌≤◌, ◌+◌, ◌*◌, ◌/◌, ◌++◌, [], IfOk, None, OnOk, codes, drop, length, option_copied, slice_index_or};
-ghost use Rattle.std.specs.{Fmt.decimal, List.flat_map, List.range_with_len};
+ghost use Rattle.std.specs.{Prelude.{◌≡◌, ◌≤◌, ◌+◌, ◌*◌, ◌/◌, ◌++◌, [], IfOk, None, OnOk, codes, drop, length, option_copied, slice_index_or}, Fmt.decimal, List.flat_map, List.range_with_len};
 ghost use Rattle.tc_course.specs.Prelude.{is_local};
 ghost use Rattle.tc_text.specs.Prelude.{shown_line};
 ghost use Rattle.tc_explored.specs.{Line.if_complete, Line.verdicts_where};
@@ -20,16 +19,11 @@ fn verdicts_of(alloc: Global, locals: &Locals, comp: usize) -> Result<Vec<Verdic
     requires { comp * 5 ≤ length locals.now.found }
     ensures { IfOk result (λ v. v.items ≡ verdicts_where (is_local locals.now.found comp)) }
 {
-    Ok(
-        VERDICTS
-            .iter()
-            .copied()
-            .filter(|verdict| is_found_of(locals, comp, *verdict))
-            .collect(alloc)?,
-    )
+    let verdicts = VERDICTS.iter().copied();
+    let found = verdicts.filter(|verdict| is_found_of(locals, comp, *verdict));
+    Ok(found.collect(alloc)?)
 }
 
-// Whether a component is found with this verdict.
 fn is_found_of(locals: &Locals, comp: usize, verdict: Verdict) -> bool
     requires { comp * 5 ≤ length locals.now.found }
     ensures { result ≡ is_local locals.now.found comp verdict }
@@ -44,46 +38,30 @@ fn is_found_of(locals: &Locals, comp: usize, verdict: Verdict) -> bool
     }
 }
 
-// The name of a component, if it has one.
 fn name_at(locals: &Locals, comp: usize) -> Option<&Name>
     ensures { option_copied result ≡ slice_index_or locals.now.names comp None }
 {
-    let names = locals.names.as_slice();
-    if comp < names.len() {
-        names[comp].as_ref()
-    } else {
-        None
-    }
-}
-
-// The text after the ` or` that it begins with.
-fn after_or(text: &[u8]) -> &[u8]
-    ensures { result.now ≡ drop 3 text.now }
-{
-    if text.len() < 3 { &[] } else { &text[3..] }
+    locals.names.as_slice().get(comp)?.as_ref()
 }
 
 // Appends verdicts, with `or` between them; if memory runs out, a part of them.
-fn append_or(alloc: Global, out: &mut Vec<u8>, verdicts: &[Verdict]) -> Result<(), NoMemory>
+#[tactic(auto, using(std::proofs::lemmas::List::drop_min))]
+fn append_or(out: &mut Vec<u8>, verdicts: &[Verdict]) -> Result<(), NoMemory>
     ensures { OnOk result (out.new.items ≡ out.old.items ++ spec.or_text verdicts.now) }
 {
-    let mut text = Vec::new(alloc);
+    let mut text = Vec::new(*out.allocator());
     append_names(&mut text, " or ", verdicts)?;
-    out.extend_from_slice(after_or(text.as_slice()))?;
+    out.extend_from_slice(&text.as_slice()[3.min(text.len())..])?;
     Ok(())
 }
 
 // Appends the line of a component, if it is found with several verdicts; if memory runs out, a part of it.
 #[tactic(auto, unfolding(crate::specs::Line::local_line))]
-fn append_line(
-    alloc: Global,
-    out: &mut Vec<u8>,
-    locals: &Locals,
-    comp: usize,
-) -> Result<(), NoMemory>
+fn append_line(out: &mut Vec<u8>, locals: &Locals, comp: usize) -> Result<(), NoMemory>
     requires { comp * 5 ≤ length locals.now.found }
     ensures { OnOk result (out.new.items ≡ out.old.items ++ spec.local_line locals.now comp) }
 {
+    let alloc = *out.allocator();
     let verdicts = verdicts_of(alloc, locals, comp)?;
     if verdicts.len() <= 1 {
         return Ok(());
@@ -92,18 +70,17 @@ fn append_line(
     append_text(&mut text, " local ")?;
     append_component(&mut text, comp as u64, name_at(locals, comp))?;
     append_text(&mut text, ":")?;
-    append_or(alloc, &mut text, verdicts.as_slice())?;
+    append_or(&mut text, verdicts.as_slice())?;
     append_shown(alloc, out, text.as_slice())
 }
 
-// Appends the lines of all components; if memory runs out, a part of them.
 #[tactic(auto, using(tc_course::proofs::Lemmas::next_of))]
-fn append_lines(alloc: Global, out: &mut Vec<u8>, locals: &Locals) -> Result<(), NoMemory>
+fn append_lines(out: &mut Vec<u8>, locals: &Locals) -> Result<(), NoMemory>
     ensures { OnOk result (out.new.items ≡ out.old.items
         ++ flat_map (spec.local_line locals.now) (range_with_len 0 (length locals.now.found / 5 + 1))) }
 {
     for comp in 0..locals.found.as_slice().len() / 5 + 1 {
-        append_line(alloc, out, locals, comp)?;
+        append_line(out, locals, comp)?;
     }
     Ok(())
 }
@@ -131,6 +108,6 @@ fn append_undecided(alloc: Global, out: &mut Vec<u8>, locals: &Locals) -> Result
 pub fn append_locals(alloc: Global, out: &mut Vec<u8>, locals: &Locals) -> Result<(), NoMemory>
     ensures { OnOk result (out.new.items ≡ out.old.items ++ spec.locals_text locals.now) }
 {
-    append_lines(alloc, out, locals)?;
+    append_lines(out, locals)?;
     append_undecided(alloc, out, locals)
 }

@@ -1,7 +1,6 @@
 //! The first call of each run that differs in two witnesses.
-ghost use Rattle.std.specs.Prelude.{◌≡◌, ◌++◌, ◌∷◌, [], IfOk, OnOk, codes, option_copied, reverse};
-ghost use Rattle.std.specs.{List.flat_map, List.range_with_len};
-ghost use Rattle.tc_blocks.specs.Prelude.{entry_text};
+ghost use Rattle.std.specs.{Prelude.{◌≡◌, ◌++◌, ◌&&◌, IfOk, OnOk, not, option_copied, reverse}, List.flat_map, List.range_with_len};
+ghost use Rattle.tc_rules.specs.Prelude.{is_by, is_parked};
 ghost use Rattle.tc_report.specs.Prelude.{names_in as spec_names, namings_of as spec_namings};
 ghost use Rattle.tc_explored.specs.Race as spec;
 
@@ -23,25 +22,18 @@ pub(crate) struct Difference {
     pub(crate) right: Option<Entry>,
 }
 
-// Adds the entry, if it is a call of the run that was not parked.
-fn add_call(calls: &mut Vec<Entry>, run: u16, entry: &Entry) -> Result<(), NoMemory>
-    ensures { OnOk result (calls.new.items ≡ calls.old.items ++ spec.calls (entry.now ∷ []) run) }
+// Whether the entry is a call of the run that was not parked.
+fn is_call(entry: &Entry, run: u16) -> bool
+    ensures { result ≡ (is_by run entry.now && not (is_parked entry.now.reply)) }
 {
-    if entry.caller.0 == run && !matches!(entry.reply, Reply::Parked) {
-        calls.push(entry.copy())?;
-    }
-    Ok(())
+    entry.caller.0 == run && !matches!(entry.reply, Reply::Parked)
 }
 
-// The calls of a run, without those that were parked.
 fn calls_of(alloc: Global, history: &[Entry], run: u16) -> Result<Vec<Entry>, NoMemory>
     ensures { IfOk result (λ v. v.items ≡ spec.calls history.now run) }
 {
-    let mut calls = Vec::new(alloc);
-    for entry in history {
-        add_call(&mut calls, run, entry)?;
-    }
-    Ok(calls)
+    let calls = history.iter().filter(|entry| is_call(entry, run));
+    Ok(calls.map(|entry| entry.copy()).collect(alloc)?)
 }
 
 // The first calls of a run that differ in two histories, if some do.
@@ -120,26 +112,15 @@ fn append_side(out: &mut Vec<u8>, names: &Names, call: &Option<Entry>) -> Result
     }
 }
 
-// Appends that this entry ended a run on this side.
-fn append_end(out: &mut Vec<u8>, side: &str, entry: &Entry) -> Result<(), NoMemory>
-    ensures { OnOk result (out.new.items ≡ out.old.items
-        ++ (codes "; " ++ (side.now ++ (codes ": before it " ++ entry_text entry.now)))) }
+// Appends what ended a run, after these words, if an entry did.
+fn append_before(out: &mut Vec<u8>, words: &str, end: Option<&Entry>) -> Result<(), NoMemory>
+    ensures { OnOk result (out.new.items ≡ out.old.items ++ spec.before_text words.now (option_copied end.entry)) }
 {
-    append_text(out, "; ")?;
-    append_text(out, side)?;
-    append_text(out, ": before it ")?;
-    append_entry(out, entry)?;
-    Ok(())
-}
-
-// Appends what ended a run on this side, if an entry did.
-fn append_before(out: &mut Vec<u8>, side: &str, end: Option<&Entry>) -> Result<(), NoMemory>
-    ensures { OnOk result (out.new.items ≡ out.old.items ++ spec.before_text side.now (option_copied end.entry)) }
-{
-    match end {
-        Some(entry) => append_end(out, side, entry),
-        None => Ok(()),
-    }
+    let Some(entry) = end else {
+        return Ok(());
+    };
+    append_text(out, words)?;
+    append_entry(out, entry)
 }
 
 // Appends which call of which run it is.
@@ -172,7 +153,6 @@ fn append_sides(
 
 // Appends it by these names of behaviours.
 fn append_named_sides(
-    alloc: Global,
     out: &mut Vec<u8>,
     names: &[Name],
     left: &[Entry],
@@ -182,14 +162,13 @@ fn append_named_sides(
     ensures { OnOk result (out.new.items ≡ out.old.items ++ spec.sides_text (spec_names left.now (spec_namings names.now))
         (spec_names right.now (spec_namings names.now)) difference.now) }
 {
+    let alloc = *out.allocator();
     let left = names_in(alloc, left, namings_of(alloc, names)?)?;
     let right = names_in(alloc, right, namings_of(alloc, names)?)?;
     append_sides(out, &left, &right, difference)
 }
 
-// Appends the line of a run whose calls differ.
 fn append_line(
-    alloc: Global,
     out: &mut Vec<u8>,
     names: &[Name],
     left: &[Entry],
@@ -198,21 +177,18 @@ fn append_line(
 ) -> Result<(), NoMemory>
     ensures { OnOk result (out.new.items ≡ out.old.items ++ spec.parting_line names.now left.now right.now difference.now) }
 {
+    let alloc = *out.allocator();
     let run = difference.run;
     let mut text = Vec::new(alloc);
-    append_named_sides(alloc, &mut text, names, left, right, difference)?;
-    append_before(&mut text, "left", end_before(left, run, &difference.left))?;
-    append_before(
-        &mut text,
-        "right",
-        end_before(right, run, &difference.right),
-    )?;
+    append_named_sides(&mut text, names, left, right, difference)?;
+    let left_end = end_before(left, run, &difference.left);
+    append_before(&mut text, "; left: before it ", left_end)?;
+    let right_end = end_before(right, run, &difference.right);
+    append_before(&mut text, "; right: before it ", right_end)?;
     append_shown(alloc, out, text.as_slice())
 }
 
-// Appends the line of a run, if its calls differ.
 fn append_parting(
-    alloc: Global,
     out: &mut Vec<u8>,
     names: &[Name],
     left: &[Entry],
@@ -221,8 +197,8 @@ fn append_parting(
 ) -> Result<(), NoMemory>
     ensures { OnOk result (out.new.items ≡ out.old.items ++ spec.parting names.now left.now right.now run) }
 {
-    match difference_of(alloc, left, right, run)? {
-        Some(difference) => append_line(alloc, out, names, left, right, &difference),
+    match difference_of(*out.allocator(), left, right, run)? {
+        Some(difference) => append_line(out, names, left, right, &difference),
         None => Ok(()),
     }
 }
@@ -231,7 +207,6 @@ fn append_parting(
 /// memory runs out, a part of them.
 #[tactic(auto, using(tc_course::proofs::Lemmas::next_of))]
 pub(crate) fn append_partings(
-    alloc: Global,
     out: &mut Vec<u8>,
     names: &[Name],
     behaviours: u16,
@@ -242,7 +217,7 @@ pub(crate) fn append_partings(
         ++ flat_map (spec.parting names.now left.now right.now) (range_with_len 0 behaviours)) }
 {
     for run in 0..behaviours {
-        append_parting(alloc, out, names, left, right, run)?;
+        append_parting(out, names, left, right, run)?;
     }
     Ok(())
 }

@@ -1,6 +1,5 @@
 //! The words of a step: as a script spells it, except that components have their place, and behaviours their run.
-ghost use Rattle.std.specs.Prelude.{◌≡◌, ◌++◌, [], OnOk, codes, flat_map, if◌then◌else◌, option_copied};
-ghost use Rattle.std.specs.{Fmt.decimal, Option.option_map_or};
+ghost use Rattle.std.specs.{Prelude.{◌≡◌, ◌++◌, [], OnOk, codes, flat_map, if◌then◌else◌, option_copied}, Fmt.decimal, Option.option_map_or};
 ghost use Rattle.tc_explored.specs.Steps as steps;
 
 use tc_entry::Name;
@@ -8,7 +7,6 @@ use tc_step::{GroupPlace, Place, Status, Step, TargetPlace};
 use tc_text::{append_number, append_text};
 use tc_verdict::{NoMemory, Run, from_user, name as name_of};
 
-// Appends a component after a space; if memory runs out, a part of it.
 fn append_place(out: &mut Vec<u8>, place: Place) -> Result<(), NoMemory>
     ensures { OnOk result (out.new.items ≡ out.old.items ++ steps.place_text place) }
 {
@@ -22,20 +20,22 @@ fn append_place(out: &mut Vec<u8>, place: Place) -> Result<(), NoMemory>
     }
 }
 
-// Appends which components are stopped or killed; if memory runs out, a part of it.
-fn append_group(out: &mut Vec<u8>, group: GroupPlace) -> Result<(), NoMemory>
-    ensures { OnOk result (out.new.items ≡ out.old.items ++ steps.group_words group) }
+// Appends a verb, and which components are stopped or killed; if memory runs out, a part of it.
+fn append_group(out: &mut Vec<u8>, verb: &str, group: GroupPlace) -> Result<(), NoMemory>
+    ensures { OnOk result (out.new.items ≡ out.old.items ++ (verb.now ++ steps.group_words group)) }
 {
+    append_text(out, verb)?;
     match group {
         GroupPlace::One(place) => append_place(out, place),
         GroupPlace::All => append_text(out, " all"),
     }
 }
 
-// Appends which components are asked about or waited for; if memory runs out, a part of it.
-fn append_target(out: &mut Vec<u8>, target: TargetPlace) -> Result<(), NoMemory>
-    ensures { OnOk result (out.new.items ≡ out.old.items ++ steps.target_words target) }
+// Appends a verb, and which components are asked about or waited for; if memory runs out, a part of it.
+fn append_target(out: &mut Vec<u8>, verb: &str, target: TargetPlace) -> Result<(), NoMemory>
+    ensures { OnOk result (out.new.items ≡ out.old.items ++ (verb.now ++ steps.target_words target)) }
 {
+    append_text(out, verb)?;
     match target {
         TargetPlace::One(place) => append_place(out, place),
         TargetPlace::Any => append_text(out, " any"),
@@ -43,7 +43,6 @@ fn append_target(out: &mut Vec<u8>, target: TargetPlace) -> Result<(), NoMemory>
     }
 }
 
-// Appends how a component is created; if memory runs out, a part of it.
 fn append_create(out: &mut Vec<u8>, alive: bool, name: Option<&Name>) -> Result<(), NoMemory>
     ensures { OnOk result (out.new.items ≡ out.old.items ++ (codes "create"
         ++ ((if alive then codes " alive" else []) ++ option_map_or (λ n. codes " named " ++ n) (option_copied name.entry) []))) }
@@ -58,7 +57,6 @@ fn append_create(out: &mut Vec<u8>, alive: bool, name: Option<&Name>) -> Result<
     Ok(())
 }
 
-// Appends components; if memory runs out, a part of them.
 fn append_places(out: &mut Vec<u8>, places: &[Place]) -> Result<(), NoMemory>
     ensures { OnOk result (out.new.items ≡ out.old.items ++ flat_map steps.place_text places.now) }
 {
@@ -68,7 +66,6 @@ fn append_places(out: &mut Vec<u8>, places: &[Place]) -> Result<(), NoMemory>
     Ok(())
 }
 
-// Appends a start; if memory runs out, a part of it.
 fn append_start(out: &mut Vec<u8>, on: Place, run: Run, args: &[Place]) -> Result<(), NoMemory>
     ensures { OnOk result (out.new.items ≡ out.old.items ++ (codes "start" ++ (steps.place_text on
         ++ (codes " run " ++ (decimal run.0 ++ flat_map steps.place_text args.now))))) }
@@ -80,7 +77,6 @@ fn append_start(out: &mut Vec<u8>, on: Place, run: Run, args: &[Place]) -> Resul
     append_places(out, args)
 }
 
-// What is asked.
 fn status_text(status: Status) -> &'static str
     ensures { result.now ≡ steps.status_text status }
 {
@@ -99,22 +95,13 @@ pub(crate) fn append_step(out: &mut Vec<u8>, step: &Step) -> Result<(), NoMemory
     match step {
         Step::Create { alive, name } => append_create(out, *alive, name.as_ref()),
         Step::Start { on, run, args } => append_start(out, *on, *run, args.as_slice()),
-        Step::Stop(group) => {
-            append_text(out, "stop")?;
-            append_group(out, *group)
-        }
-        Step::Kill(group) => {
-            append_text(out, "kill")?;
-            append_group(out, *group)
-        }
+        Step::Stop(group) => append_group(out, "stop", *group),
+        Step::Kill(group) => append_group(out, "kill", *group),
         Step::StopCase => append_text(out, "stopcase"),
-        Step::Ask(status, target) => {
-            append_text(out, status_text(*status))?;
-            append_target(out, *target)
-        }
+        Step::Ask(status, target) => append_target(out, status_text(*status), *target),
         Step::Wait { killed, target } => {
-            append_text(out, if *killed { "wait killed" } else { "wait done" })?;
-            append_target(out, *target)
+            let verb = if *killed { "wait killed" } else { "wait done" };
+            append_target(out, verb, *target)
         }
         Step::SetVerdict(verdict) => {
             append_text(out, "setverdict ")?;

@@ -1,6 +1,5 @@
 //! The five verdicts.
-ghost use Rattle.std.specs.Prelude.{◌≡◌, ◌++◌, OnOk};
-ghost use Rattle.std.specs.List.{flat_map};
+ghost use Rattle.std.specs.{Prelude.{◌≡◌, ◌++◌, OnOk}, List.flat_map};
 ghost use Rattle.tc_rules.specs.Prelude.{name_of as verdict_name};
 
 use tc_text::append_text;

@@ -1,6 +1,6 @@
 use Rattle.std.proofs.Common.{refl}
 use Rattle.tc_rules.proofs.Lemmas.Differing.{not_merged}
-use Rattle.tc_explored.proofs.state.state_after.Goals as goal
+use Rattle.tc_explored.proofs.components.state_after.Goals as goal
 
 pub unreachable-requires : goal.unreachable-requires
 unreachable-requires c =
