@@ -1,13 +1,14 @@
 //! Lines that only help, as a text.
+ghost use Rattle.std.specs.Prelude.{◌≤◌, length};
+
+use crate::Result;
 use crate::nearest::near_word;
-use crate::places::start_of;
 use crate::quote::{SHOWN, quoted_begin, quoted_rest};
 use crate::scan::Opened;
 use crate::sort::Refusal;
 use std::alloc::Global;
 use tc_entry::NAME_BYTES;
 use tc_text::append_text;
-use tc_verdict::NoMemory;
 
 /// The first fault of a text, and what is around it.
 #[derive(Clone, Copy)]
@@ -37,31 +38,46 @@ pub(crate) struct Help<'l> {
     pub(crate) text: Vec<u8>,
 }
 
+// How many bytes are before the word at this place among the words of the line, or before its end.
+fn start_of(line: &[u8], place: usize) -> usize
+    ensures { result ≤ length line.now }
+{
+    let mut left = place;
+    let mut inside = false;
+    for (at, byte) in line.iter().enumerate() {
+        if *byte == b' ' {
+            inside = false;
+        } else if !inside {
+            if left == 0 {
+                return at;
+            }
+            left -= 1;
+            inside = true;
+        }
+    }
+    line.len()
+}
+
 impl Help<'_> {
     /// Adds a line.
-    pub(crate) fn add_line(&mut self, text: &str) -> Result<(), NoMemory> {
+    pub(crate) fn add_line(&mut self, text: &str) -> Result<()> {
         append_text(&mut self.text, text)?;
         append_text(&mut self.text, "\n")
     }
 
     /// Adds a line of a number and what is before and after it.
-    pub(crate) fn add_counted(
-        &mut self,
-        before: &str,
-        number: usize,
-        after: &str,
-    ) -> Result<(), NoMemory> {
+    pub(crate) fn add_counted(&mut self, before: &str, number: usize, after: &str) -> Result<()> {
         self.add_line(format!(in self.alloc; "{before}{number}{after}")?.as_str())
     }
 
     /// Adds the column that comes after that many bytes, and what is wrong there.
-    pub(crate) fn add_column(&mut self, start: usize, what: &str) -> Result<(), NoMemory> {
+    pub(crate) fn add_column(&mut self, start: usize, what: &str) -> Result<()> {
         let line = format!(in self.alloc; "column {}: {what}", start.saturating_add(1))?;
         self.add_line(line.as_str())
     }
 
     /// Adds the word at a place of the line, with its column, if there is one.
-    pub(crate) fn add_word(&mut self, place: usize) -> Result<(), NoMemory> {
+    pub(crate) fn add_word(&mut self, place: usize) -> Result<()> {
         let Some(word) = self.words.get(place) else {
             return Ok(());
         };
@@ -75,12 +91,7 @@ impl Help<'_> {
     }
 
     /// Adds a line of these words, and of what is before and after them.
-    pub(crate) fn add_words(
-        &mut self,
-        before: &str,
-        words: &[&[u8]],
-        after: &str,
-    ) -> Result<(), NoMemory> {
+    pub(crate) fn add_words(&mut self, before: &str, words: &[&[u8]], after: &str) -> Result<()> {
         append_text(&mut self.text, before)?;
         for word in words {
             append_text(&mut self.text, " ")?;
@@ -90,7 +101,7 @@ impl Help<'_> {
     }
 
     /// Adds the one of these words that is the nearest to a word, if one is near. Whether one is.
-    pub(crate) fn add_near(&mut self, word: &[u8], words: &[&[u8]]) -> Result<bool, NoMemory> {
+    pub(crate) fn add_near(&mut self, word: &[u8], words: &[&[u8]]) -> Result<bool> {
         match near_word(self.alloc, word, words)? {
             Some(near) => self.add_words("nearest:", &[near], "")?,
             None => return Ok(false),
@@ -99,14 +110,14 @@ impl Help<'_> {
     }
 
     /// Adds the words that would be understood, and what else would; one of both may be empty.
-    pub(crate) fn add_expected(&mut self, words: &[&[u8]], other: &str) -> Result<(), NoMemory> {
+    pub(crate) fn add_expected(&mut self, words: &[&[u8]], other: &str) -> Result<()> {
         let space = if words.is_empty() { " " } else { "" };
         let other = format!(in self.alloc; "{space}{other}")?;
         self.add_words("expected:", words, other.as_str())
     }
 
     /// Adds a line of the first names, that many that they are shown as a line is.
-    pub(crate) fn add_names(&mut self, head: &str, names: &[&[u8]]) -> Result<(), NoMemory> {
+    pub(crate) fn add_names(&mut self, head: &str, names: &[&[u8]]) -> Result<()> {
         let mut room = SHOWN;
         for (count, name) in names.iter().enumerate() {
             if name.len() >= room {
@@ -118,7 +129,7 @@ impl Help<'_> {
     }
 
     /// Adds what a name may have.
-    pub(crate) fn add_name_rule(&mut self) -> Result<(), NoMemory> {
+    pub(crate) fn add_name_rule(&mut self) -> Result<()> {
         let rest = " letters, digits and _, the first a letter, and is not all, any, mtc or self";
         self.add_counted("a name has 1 to ", NAME_BYTES, rest)
     }

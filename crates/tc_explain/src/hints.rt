@@ -1,7 +1,9 @@
 //! What helps besides the place where a line stops.
+ghost use Rattle.std.specs.Prelude.{ℕ, ◌≡◌, ◌≢◌, ◌<◌, ◌≤◌, ◌+◌, ◌-◌, ◌⊎◌, true, false, length, slice_index};
+
+use crate::Result;
 use crate::help::{Around, Help};
 use crate::naming::add_naming;
-use crate::places::space_of;
 use crate::scan::Opened;
 use crate::slot::{Slot, Walk, is_digits};
 use crate::sort::{Refusal, Sort};
@@ -12,18 +14,17 @@ use tc_reader::{
     Keyword, STEPS, ScriptKind, TEST_CASES, is_word, read_keyword, read_name, read_words,
 };
 use tc_text::{TextKind, read_number};
-use tc_verdict::NoMemory;
 
 // Adds the limit that the line passes, which begins with this keyword.
-fn add_limit(help: &mut Help, keyword: Option<Keyword>) -> Result<(), NoMemory> {
-    let others = help.words.len().saturating_sub(1);
+fn add_limit(help: &mut Help, keyword: Option<Keyword>) -> Result<()> {
+    let words = help.words.len();
     let (before, most, after) = match keyword {
         Some(Keyword::TestCase) => ("a script has at most ", TEST_CASES, " test cases"),
-        Some(Keyword::Behaviour) if others > 1 + ARGUMENTS => {
+        Some(Keyword::Behaviour) if words > 2 + ARGUMENTS => {
             ("a behaviour has at most ", ARGUMENTS, " parameters")
         }
         Some(Keyword::Behaviour) => ("a test case has at most ", BEHAVIOURS, " behaviours"),
-        Some(Keyword::Start) if others > 2 + ARGUMENTS => {
+        Some(Keyword::Start) if words > 3 + ARGUMENTS => {
             ("a start has at most ", ARGUMENTS, " arguments")
         }
         _ => ("a behaviour has at most ", STEPS, " steps"),
@@ -44,7 +45,7 @@ fn offered<'k>(opened: Opened, slot: Slot, words: &'k [&'static [u8]]) -> &'k [&
 }
 
 // Adds the word at which the line stops, or its end, what may be there, and the nearest of that.
-fn add_stop(help: &mut Help, walk: &Walk) -> Result<(), NoMemory> {
+fn add_stop(help: &mut Help, walk: &Walk) -> Result<()> {
     let place = walk.slots.len();
     let words = walk.last.words(help.alloc)?;
     let offered = offered(help.around.opened, walk.last, words.as_slice());
@@ -65,7 +66,7 @@ fn add_stop(help: &mut Help, walk: &Walk) -> Result<(), NoMemory> {
 }
 
 // Adds what the word may be at which a line of a script stops.
-fn add_stopped(help: &mut Help, kind: ScriptKind, slot: Slot, word: &[u8]) -> Result<(), NoMemory> {
+fn add_stopped(help: &mut Help, kind: ScriptKind, slot: Slot, word: &[u8]) -> Result<()> {
     if begins_comment(word) {
         help.add_line("a comment has a line of its own, which begins with #")
     } else if kind == ScriptKind::BadName {
@@ -78,7 +79,7 @@ fn add_stopped(help: &mut Help, kind: ScriptKind, slot: Slot, word: &[u8]) -> Re
 }
 
 // Adds what helps with a line that is of no form of a script.
-fn add_unformed(help: &mut Help, kind: ScriptKind) -> Result<(), NoMemory> {
+fn add_unformed(help: &mut Help, kind: ScriptKind) -> Result<()> {
     let walk = Walk::new(help.alloc, Sort::Script, Slot::Keyword, help.words)?;
     if walk.is_whole(help.words) {
         return help.add_line("the line is understood");
@@ -94,7 +95,7 @@ fn add_unformed(help: &mut Help, kind: ScriptKind) -> Result<(), NoMemory> {
 }
 
 // Adds what helps with a line of this keyword that may not be where it is.
-fn add_misplaced(help: &mut Help, keyword: Keyword) -> Result<(), NoMemory> {
+fn add_misplaced(help: &mut Help, keyword: Keyword) -> Result<()> {
     let walk = Walk::new(help.alloc, Sort::Script, Slot::Keyword, &[])?;
     add_stop(help, &walk)?;
     help.add_line(match (keyword, help.around.opened) {
@@ -109,7 +110,7 @@ fn add_misplaced(help: &mut Help, keyword: Keyword) -> Result<(), NoMemory> {
 }
 
 // Adds what helps with a line of a script.
-fn add_script(help: &mut Help, kind: ScriptKind) -> Result<(), NoMemory> {
+fn add_script(help: &mut Help, kind: ScriptKind) -> Result<()> {
     let keyword = help.words.first().and_then(|word| read_keyword(word));
     match (kind, keyword) {
         (ScriptKind::BadLine | ScriptKind::BadName, _) => add_unformed(help, kind),
@@ -125,7 +126,7 @@ fn add_script(help: &mut Help, kind: ScriptKind) -> Result<(), NoMemory> {
 }
 
 // Adds why a word of digits at this place and slot is no number. Whether it is none.
-fn add_number(help: &mut Help, place: usize, slot: Slot, word: &[u8]) -> Result<bool, NoMemory> {
+fn add_number(help: &mut Help, place: usize, slot: Slot, word: &[u8]) -> Result<bool> {
     let most = match slot {
         Slot::Run | Slot::Entry | Slot::Started => u16::MAX as u32,
         _ => u32::MAX,
@@ -142,7 +143,7 @@ fn add_number(help: &mut Help, place: usize, slot: Slot, word: &[u8]) -> Result<
 }
 
 // Adds which of the words, the first of which are at these slots, is no number, and why. Whether one is none.
-fn add_numbers(help: &mut Help, slots: &[Slot]) -> Result<bool, NoMemory> {
+fn add_numbers(help: &mut Help, slots: &[Slot]) -> Result<bool> {
     let words = help.words;
     for (place, (slot, word)) in slots.iter().zip(words.iter()).enumerate() {
         if add_number(help, place, *slot, word)? {
@@ -161,7 +162,7 @@ fn count_at(wanted: Slot, slots: &[Slot], words: &[&[u8]]) -> usize {
 }
 
 // Adds what helps with a line of moves or histories, the first word of which is at this slot.
-fn add_call(help: &mut Help, sort: Sort, first: Slot) -> Result<(), NoMemory> {
+fn add_call(help: &mut Help, sort: Sort, first: Slot) -> Result<()> {
     let walk = Walk::new(help.alloc, sort, first, help.words)?;
     let slots = walk.slots.as_slice();
     if !walk.is_whole(help.words) {
@@ -180,7 +181,7 @@ fn add_call(help: &mut Help, sort: Sort, first: Slot) -> Result<(), NoMemory> {
 }
 
 // Adds what the first line of a history is, and of a name in its place what it may have.
-fn add_first_line(help: &mut Help) -> Result<(), NoMemory> {
+fn add_first_line(help: &mut Help) -> Result<()> {
     let text = match help.words {
         [first, ..] if is_word(first, b"evidence") => {
             "expected: evidence 1 NAME N, with N from 1 to 256"
@@ -206,8 +207,35 @@ fn is_of_evidence(words: &[&[u8]]) -> bool {
     }
 }
 
+// Whether a space is at this place that is one too many: at an end of the line, or after another one.
+fn is_extra(line: &[u8], at: usize) -> bool
+    requires { at < length line.now }
+    ensures is { result ≡ true → (slice_index line.now at ≡ 32)
+        × ((at ≡ 0) ⊎ ((at + 1 ≡ length line.now) ⊎ (slice_index line.now (at - 1) ≡ 32))) }
+    ensures not_one { result ≡ false → slice_index line.now at ≡ 32
+        → (at ≢ 0) × ((at + 1 ≢ length line.now) × (slice_index line.now (at - 1) ≢ 32)) }
+{
+    line[at] == b' ' && (at == 0 || at + 1 == line.len() || line[at - 1] == b' ')
+}
+
+// How many bytes are before the first space after a space, or at an end of the line.
+fn space_of(line: &[u8]) -> usize
+    ensures within { result ≤ length line.now }
+    ensures first { (at : ℕ) → at < result → slice_index line.now at ≡ 32
+        → (at ≢ 0) × ((at + 1 ≢ length line.now) × (slice_index line.now (at - 1) ≢ 32)) }
+    ensures extra { result < length line.now → (slice_index line.now result ≡ 32)
+        × ((result ≡ 0) ⊎ ((result + 1 ≡ length line.now) ⊎ (slice_index line.now (result - 1) ≡ 32))) }
+{
+    for at in 0..line.len() {
+        if is_extra(line, at) {
+            return at;
+        }
+    }
+    line.len()
+}
+
 // Adds what helps with a line of moves or histories.
-fn add_spaced(help: &mut Help) -> Result<(), NoMemory> {
+fn add_spaced(help: &mut Help) -> Result<()> {
     let space = space_of(help.line);
     match help.around.refusal {
         Refusal::Histories(TextKind::Entry) if is_of_evidence(help.words) => help.add_line(
@@ -225,7 +253,7 @@ fn add_spaced(help: &mut Help) -> Result<(), NoMemory> {
 }
 
 // Adds how that ends which is open at the end of the text.
-fn add_end(help: &mut Help) -> Result<(), NoMemory> {
+fn add_end(help: &mut Help) -> Result<()> {
     help.add_line(match (help.around.refusal, help.around.opened) {
         (Refusal::Moves(_), _) | (Refusal::Histories(_), Opened::Nothing) => return Ok(()),
         (Refusal::Histories(_), _) => "a history ends with `end` and its verdict",
@@ -237,11 +265,7 @@ fn add_end(help: &mut Help) -> Result<(), NoMemory> {
 
 /// What helps with the line of the first fault of a text, which has no odd byte, or with the end of the text before it,
 /// line by line.
-pub(crate) fn hints(
-    alloc: Global,
-    around: Around,
-    line: Option<&[u8]>,
-) -> Result<Vec<u8>, NoMemory> {
+pub(crate) fn hints(alloc: Global, around: Around, line: Option<&[u8]>) -> Result<Vec<u8>> {
     let bytes = line.unwrap_or(&[]);
     let mut words = Vec::new(alloc);
     read_words(bytes, &mut words)?;

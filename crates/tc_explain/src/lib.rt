@@ -7,7 +7,6 @@ mod hints;
 mod names;
 mod naming;
 mod nearest;
-mod places;
 mod quote;
 mod scan;
 mod slot;
@@ -17,3 +16,6 @@ mod telling;
 
 pub use sort::Refusal;
 pub use telling::{append_unknown, explain};
+
+// What a function returns that may run out of memory.
+type Result<T> = std::result::Result<T, tc_verdict::NoMemory>;

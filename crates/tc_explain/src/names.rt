@@ -1,7 +1,7 @@
 //! The names of a script, as far as a line may refer to them or not use them again.
+use crate::Result;
 use std::alloc::Global;
 use tc_reader::{Keyword, Lines, is_word, read_keyword, read_words};
-use tc_verdict::NoMemory;
 
 /// A name, the line that gives it, and how many parameters follow it there.
 #[derive(Clone, Copy)]
@@ -26,7 +26,7 @@ pub(crate) struct Names<'t> {
 
 impl<'t> Names<'t> {
     // Binds the name; whether this is above the line that is wanted.
-    fn bind(&mut self, given: Given<'t>, above: bool) -> Result<(), NoMemory> {
+    fn bind(&mut self, given: Given<'t>, above: bool) -> Result<()> {
         self.anywhere.push(given)?;
         if above {
             self.bound.push(given)?;
@@ -40,7 +40,7 @@ impl<'t> Names<'t> {
         given: Given<'t>,
         above: bool,
         parameters: &[&'t [u8]],
-    ) -> Result<(), NoMemory> {
+    ) -> Result<()> {
         self.behaviours.push(given)?;
         if above {
             self.bound.clear();
@@ -52,7 +52,7 @@ impl<'t> Names<'t> {
     }
 
     // Takes the words of a line with this number; whether it is above the line that is wanted.
-    fn take(&mut self, line: usize, above: bool, words: &[&'t [u8]]) -> Result<(), NoMemory> {
+    fn take(&mut self, line: usize, above: bool, words: &[&'t [u8]]) -> Result<()> {
         let [first, name, rest @ ..] = words else {
             return Ok(());
         };
@@ -75,12 +75,7 @@ impl<'t> Names<'t> {
     }
 
     /// The names around the line with this number. The text is read to the end of its test case.
-    pub(crate) fn read(
-        &mut self,
-        alloc: Global,
-        text: &'t [u8],
-        wanted: usize,
-    ) -> Result<(), NoMemory> {
+    pub(crate) fn read(&mut self, alloc: Global, text: &'t [u8], wanted: usize) -> Result<()> {
         let mut words = Vec::new(alloc);
         let mut rest = Lines::new(text);
         for number in 1..=text.len() {

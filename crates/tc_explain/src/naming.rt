@@ -1,9 +1,9 @@
 //! What helps if a name of a script is wrong.
+use crate::Result;
 use crate::help::Help;
 use crate::names::{Given, Names, given_as, no_names};
 use tc_entry::ARGUMENTS;
 use tc_reader::{Keyword, ScriptKind, is_word, read_keyword, read_name};
-use tc_verdict::NoMemory;
 
 // Adds the nearest of the names or of the other words; if none is near, the names under this head, or that there is none.
 fn add_near<'n>(
@@ -12,7 +12,7 @@ fn add_near<'n>(
     given: &[Given<'n>],
     others: &[&'n [u8]],
     (head, none): (&str, &str),
-) -> Result<(), NoMemory> {
+) -> Result<()> {
     let mut words = Vec::new(help.alloc);
     for one in given {
         words.push(one.name)?;
@@ -49,7 +49,7 @@ fn unbound<'t>(keyword: Keyword, bound: &[Given], words: &[&'t [u8]]) -> Option<
 }
 
 // Adds where the word is bound, or that it names a behaviour.
-fn add_elsewhere(help: &mut Help, names: &Names, word: &[u8]) -> Result<(), NoMemory> {
+fn add_elsewhere(help: &mut Help, names: &Names, word: &[u8]) -> Result<()> {
     if let Some(one) = given_as(names.anywhere.as_slice(), word) {
         let rest = ", to the end of that behaviour";
         return help.add_counted("it is bound after line ", one.line, rest);
@@ -79,7 +79,7 @@ fn others_of(keyword: Option<Keyword>) -> &'static [&'static [u8]] {
 }
 
 // Adds which name is not bound, and the nearest that is.
-fn add_unbound(help: &mut Help, names: &Names) -> Result<(), NoMemory> {
+fn add_unbound(help: &mut Help, names: &Names) -> Result<()> {
     let bound = names.bound.as_slice();
     let keyword = help.words.first().and_then(|word| read_keyword(word));
     let found = keyword.and_then(|keyword| unbound(keyword, bound, help.words));
@@ -96,7 +96,7 @@ fn add_unbound(help: &mut Help, names: &Names) -> Result<(), NoMemory> {
 }
 
 // Adds which behaviour there is not, and the nearest that there is and that may be started.
-fn add_unknown(help: &mut Help, names: &Names) -> Result<(), NoMemory> {
+fn add_unknown(help: &mut Help, names: &Names) -> Result<()> {
     help.add_word(2)?;
     help.add_line("a start names a behaviour of its test case")?;
     let started = names.behaviours.as_slice().get(1..).unwrap_or(&[]);
@@ -111,7 +111,7 @@ fn add_unknown(help: &mut Help, names: &Names) -> Result<(), NoMemory> {
 }
 
 // Adds how many arguments there are, and how many there should be.
-fn add_arguments(help: &mut Help, names: &Names) -> Result<(), NoMemory> {
+fn add_arguments(help: &mut Help, names: &Names) -> Result<()> {
     help.add_line("a start gives as many arguments as the behaviour has parameters")?;
     let [_, _, name, arguments @ ..] = help.words else {
         return Ok(());
@@ -162,7 +162,7 @@ fn twice(names: &Names, number: usize, words: &[&[u8]]) -> Option<(usize, usize)
 }
 
 // Adds which name is given already, and where.
-fn add_twice(help: &mut Help, names: &Names) -> Result<(), NoMemory> {
+fn add_twice(help: &mut Help, names: &Names) -> Result<()> {
     let found = twice(names, help.around.number, help.words);
     if let Some((place, _)) = found {
         help.add_word(place)?;
@@ -177,7 +177,7 @@ fn add_twice(help: &mut Help, names: &Names) -> Result<(), NoMemory> {
 }
 
 // Adds what is wrong with a name of the line among these names.
-fn add_named_wrong(help: &mut Help, kind: ScriptKind, names: &Names) -> Result<(), NoMemory> {
+fn add_named_wrong(help: &mut Help, kind: ScriptKind, names: &Names) -> Result<()> {
     match kind {
         ScriptKind::Twice => add_twice(help, names),
         ScriptKind::NoReference => add_unbound(help, names),
@@ -187,7 +187,7 @@ fn add_named_wrong(help: &mut Help, kind: ScriptKind, names: &Names) -> Result<(
 }
 
 /// Adds what is wrong with a name of the line.
-pub(crate) fn add_naming(help: &mut Help, kind: ScriptKind) -> Result<(), NoMemory> {
+pub(crate) fn add_naming(help: &mut Help, kind: ScriptKind) -> Result<()> {
     if kind == ScriptKind::MainParameters {
         help.add_word(2)?;
         return help.add_line(

@@ -1,13 +1,13 @@
 //! The nearest of some words to a word.
 ghost use Rattle.std.specs.Prelude.{◌≡◌, ◌<◌, ◌≤◌, ◌*◌, ◌⊎◌, ◌↔◌, IsTrue, length};
 
+use crate::Result;
 use std::alloc::Global;
 use strsim::generic_damerau_levenshtein;
 use tc_entry::NAME_BYTES;
-use tc_verdict::NoMemory;
 
 // How many edits lead from one word to the other: a letter more, less or another, two that are swapped, or capital letters.
-fn edits(alloc: Global, word: &[u8], other: &[u8]) -> Result<usize, NoMemory> {
+fn edits(alloc: Global, word: &[u8], other: &[u8]) -> Result<usize> {
     let is_alike = word.eq_ignore_ascii_case(other);
     let most = if is_alike { 1 } else { usize::MAX };
     Ok(generic_damerau_levenshtein(alloc, word, other)?.min(most))
@@ -24,7 +24,7 @@ fn nearest<'t>(
     alloc: Global,
     word: &[u8],
     table: &[&'t [u8]],
-) -> Result<Option<(&'t [u8], usize)>, NoMemory> {
+) -> Result<Option<(&'t [u8], usize)>> {
     let mut found: Option<(&'t [u8], usize)> = None;
     for other in table {
         let distance = edits(alloc, word, other)?;
@@ -47,7 +47,7 @@ pub(crate) fn near_word<'t>(
     alloc: Global,
     word: &[u8],
     table: &[&'t [u8]],
-) -> Result<Option<&'t [u8]>, NoMemory> {
+) -> Result<Option<&'t [u8]>> {
     if !is_plain_word(word) {
         return Ok(None);
     }

@@ -1,24 +1,23 @@
 //! Bytes of a text, as they are shown, and those that no line may have.
-ghost use Rattle.std.specs.Prelude.{◌≡◌, ◌<◌, IfOk, IfSome, length, not, take};
-ghost use Rattle.std.specs.List.{before_first, position};
+ghost use Rattle.std.specs.{Prelude.{◌≡◌, ◌<◌, IfOk, IfSome, length, not, take}, List.{before_first, position}};
 ghost use Rattle.tc_text.specs.Prelude.{is_plain as is_plain_byte};
 ghost use Rattle.tc_explain.specs.Explanation.{quoted};
 
+use crate::Result;
 use std::alloc::Global;
 use tc_text::{append_text, is_plain};
-use tc_verdict::NoMemory;
 
 /// How many bytes of a line or a word are shown.
 pub const SHOWN: usize = 60;
 
 // Appends a byte by its two hexadecimal digits.
-fn append_hex(out: &mut Vec<u8>, byte: u8) -> Result<(), NoMemory> {
+fn append_hex(out: &mut Vec<u8>, byte: u8) -> Result<()> {
     let alloc = *out.allocator();
     append_text(out, format!(in alloc; "\\x{byte:02X}")?.as_str())
 }
 
 // Appends what is shown of a byte.
-fn append_byte(out: &mut Vec<u8>, byte: u8) -> Result<(), NoMemory> {
+fn append_byte(out: &mut Vec<u8>, byte: u8) -> Result<()> {
     if !is_plain(byte) {
         return append_hex(out, byte);
     }
@@ -54,7 +53,7 @@ fn plain_begin(bytes: &[u8]) -> &[u8]
 }
 
 /// A backquote, and what is shown of a line or a word before its first odd byte.
-pub(crate) fn quoted_begin(alloc: Global, bytes: &[u8]) -> Result<Vec<u8>, NoMemory>
+pub(crate) fn quoted_begin(alloc: Global, bytes: &[u8]) -> Result<Vec<u8>>
     ensures { IfOk result (λ v. v.items ≡ quoted bytes.now) }
 {
     let mut out = Vec::new(alloc);
@@ -64,7 +63,7 @@ pub(crate) fn quoted_begin(alloc: Global, bytes: &[u8]) -> Result<Vec<u8>, NoMem
 }
 
 /// What is shown of a line or a word from its first odd byte on, and the end of the quotation.
-pub(crate) fn quoted_rest(alloc: Global, bytes: &[u8]) -> Result<Vec<u8>, NoMemory> {
+pub(crate) fn quoted_rest(alloc: Global, bytes: &[u8]) -> Result<Vec<u8>> {
     let mut out = Vec::new(alloc);
     let begin = shown(bytes);
     for byte in begin.iter().skip(plain_begin(begin).len()) {
@@ -87,7 +86,7 @@ fn name_of(bytes: &[u8]) -> Option<&'static str> {
 }
 
 /// Appends the name of what begins with an odd byte, otherwise the number of that byte.
-pub(crate) fn append_odd(out: &mut Vec<u8>, bytes: &[u8]) -> Result<(), NoMemory> {
+pub(crate) fn append_odd(out: &mut Vec<u8>, bytes: &[u8]) -> Result<()> {
     match (name_of(bytes), bytes.first()) {
         (Some(name), _) => append_text(out, name),
         (None, Some(byte)) => {

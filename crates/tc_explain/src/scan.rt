@@ -3,9 +3,9 @@ ghost use Rattle.std.specs.Prelude.{◌≡◌, IfOk, map, option_copied};
 ghost use Rattle.tc_reader.specs.Prelude.{lines};
 ghost use Rattle.tc_explain.specs.Explanation.{after_keyword as keyword_after, after_line as line_after, find};
 
+use crate::Result;
 use std::alloc::Global;
 use tc_reader::{Keyword, Lines, is_word, read_keyword, read_words};
-use tc_verdict::NoMemory;
 
 /// What is open before a line, by the lines where it began.
 #[derive(Clone, Copy)]
@@ -54,11 +54,7 @@ impl Opened {
 }
 
 /// The line with this number of a text, and what is open before it.
-pub(crate) fn find_line<'t>(
-    alloc: Global,
-    text: &'t [u8],
-    wanted: usize,
-) -> Result<Found<'t>, NoMemory>
+pub(crate) fn find_line<'t>(alloc: Global, text: &'t [u8], wanted: usize) -> Result<Found<'t>>
     ensures opened { IfOk result (λ f. f.opened ≡ (find wanted 1 Opened.Nothing (lines text.now)).0) }
     ensures line { IfOk result (λ f. option_copied f.line ≡ (find wanted 1 Opened.Nothing (lines text.now)).1) }
 {

@@ -1,8 +1,8 @@
 //! What may be at a place of a line, and the place at which a line stops being understood.
+use crate::Result;
 use crate::sort::Sort;
 use std::alloc::Global;
 use tc_reader::{Keyword, is_word, read_keyword, read_name, read_reference, read_words};
-use tc_verdict::NoMemory;
 
 /// What may be at a place of a line.
 #[derive(Clone, Copy, PartialEq, Eq)]
@@ -62,28 +62,48 @@ fn after_verb(word: &[u8], created: Slot) -> Slot {
 }
 
 impl Slot {
-    // The words that may be there, besides names and numbers.
-    fn text_of_words(self) -> &'static str {
+    // The words that may be there, besides names and numbers, and what is printed after those that are listed.
+    fn texts(self) -> (&'static str, &'static str) {
         match self {
-            Slot::Keyword => {
-                "testcase behaviour end create start stop kill stopcase running alive done killed wait setverdict getverdict"
-            }
-            Slot::Verb => {
-                "create start stop kill stopcase running alive done killed wait setverdict getverdict wake finish"
-            }
-            Slot::Entry => "end",
-            Slot::Kind => "alive named",
-            Slot::Naming => "named",
-            Slot::Group => "all",
-            Slot::Target => "any all",
-            Slot::Status => "done killed",
-            Slot::Verdict => "none pass inconc fail",
-            Slot::Reply => "made ok true false none pass inconc fail error matched parked ended",
-            Slot::Error => {
-                "no-component not-main start-main already-running not-startable no-behaviour too-many stuck"
-            }
-            Slot::Overall => "none pass inconc fail error",
-            _ => "",
+            Slot::Keyword => (
+                "testcase behaviour end create start stop kill stopcase running alive done killed wait setverdict getverdict",
+                "",
+            ),
+            Slot::Run => ("", "the number of a run"),
+            Slot::Entry => ("end", "the number of a run, or end"),
+            Slot::Verb => (
+                "create start stop kill stopcase running alive done killed wait setverdict getverdict wake finish",
+                "",
+            ),
+            Slot::TestCase => ("", "the name of a test case"),
+            Slot::Behaviour => ("", "the name of a behaviour"),
+            Slot::Parameters => ("", "a parameter, or the end of the line"),
+            Slot::Created => ("", "the name of a component"),
+            Slot::Kind => ("alive named", "alive, named, or the end of the call"),
+            Slot::Naming => ("named", "named, or the end of the call"),
+            Slot::GivenName => ("", "a name"),
+            Slot::On => ("", "a component"),
+            Slot::Started => ("", "the behaviour that is started"),
+            Slot::Arguments => ("", "a component, or the end of the call"),
+            Slot::Group => ("all", "all or a component"),
+            Slot::Target => ("any all", "any, all or a component"),
+            Slot::Status => ("done killed", "done or killed"),
+            Slot::Verdict => ("none pass inconc fail", "none, pass, inconc or fail"),
+            Slot::End => ("", "the end of the call"),
+            Slot::Reply => (
+                "made ok true false none pass inconc fail error matched parked ended",
+                "",
+            ),
+            Slot::Made => ("", "the number of a component"),
+            Slot::Error => (
+                "no-component not-main start-main already-running not-startable no-behaviour too-many stuck",
+                ", or the end of the line",
+            ),
+            Slot::Overall => (
+                "none pass inconc fail error",
+                "none, pass, inconc, fail or error",
+            ),
+            Slot::LineEnd => ("", "the end of the line"),
         }
     }
 
@@ -129,7 +149,7 @@ impl Slot {
 
     // The slot after a word, if it may be there.
     fn after(self, sort: Sort, word: &[u8]) -> Option<Slot> {
-        if has_word(self.text_of_words(), word) {
+        if has_word(self.texts().0, word) {
             return Some(self.after_word(word));
         }
         if sort == Sort::Histories && self.ends_call() && is_word(word, b"->") {
@@ -138,41 +158,13 @@ impl Slot {
         self.after_other(sort == Sort::Script, word)
     }
 
-    // What is printed about it after the words that are listed.
-    fn name(self) -> &'static str {
-        match self {
-            Slot::Keyword | Slot::Verb | Slot::Reply => "",
-            Slot::Run => "the number of a run",
-            Slot::Entry => "the number of a run, or end",
-            Slot::TestCase => "the name of a test case",
-            Slot::Behaviour => "the name of a behaviour",
-            Slot::Parameters => "a parameter, or the end of the line",
-            Slot::Created => "the name of a component",
-            Slot::Kind => "alive, named, or the end of the call",
-            Slot::Naming => "named, or the end of the call",
-            Slot::GivenName => "a name",
-            Slot::On => "a component",
-            Slot::Started => "the behaviour that is started",
-            Slot::Arguments => "a component, or the end of the call",
-            Slot::Group => "all or a component",
-            Slot::Target => "any, all or a component",
-            Slot::Status => "done or killed",
-            Slot::Verdict => "none, pass, inconc or fail",
-            Slot::End => "the end of the call",
-            Slot::Made => "the number of a component",
-            Slot::Error => ", or the end of the line",
-            Slot::Overall => "none, pass, inconc, fail or error",
-            Slot::LineEnd => "the end of the line",
-        }
-    }
-
     /// What is printed about it after the words that are listed. In a history that is the arrow if a call may end there,
     /// and no word is left or no other may be there.
     pub(crate) fn text(self, sort: Sort, is_last: bool) -> &'static str {
         if sort == Sort::Histories && (self == Slot::End || is_last && self.ends_call()) {
             "-> and a reply"
         } else {
-            self.name()
+            self.texts().1
         }
     }
 
@@ -198,9 +190,9 @@ impl Slot {
     }
 
     /// Those words.
-    pub(crate) fn words(self, alloc: Global) -> Result<Vec<&'static [u8]>, NoMemory> {
+    pub(crate) fn words(self, alloc: Global) -> Result<Vec<&'static [u8]>> {
         let mut words = Vec::new(alloc);
-        read_words(self.text_of_words().as_bytes(), &mut words)?;
+        read_words(self.texts().0.as_bytes(), &mut words)?;
         Ok(words)
     }
 }
@@ -215,12 +207,7 @@ pub(crate) struct Walk {
 
 impl Walk {
     /// The slots of these words, the first of which is at this one, as far as each may be where it is.
-    pub(crate) fn new(
-        alloc: Global,
-        sort: Sort,
-        first: Slot,
-        words: &[&[u8]],
-    ) -> Result<Walk, NoMemory> {
+    pub(crate) fn new(alloc: Global, sort: Sort, first: Slot, words: &[&[u8]]) -> Result<Walk> {
         let mut slots = Vec::new(alloc);
         let mut last = first;
         for word in words {

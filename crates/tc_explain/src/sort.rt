@@ -1,8 +1,8 @@
 //! What a text should be, and what it seems to be.
+use crate::Result;
 use std::alloc::Global;
 use tc_reader::{Keyword, Lines, ScriptKind, is_comment, is_word, read_words};
 use tc_text::TextKind;
-use tc_verdict::NoMemory;
 
 /// A sort of texts.
 #[derive(Clone, Copy, Debug, PartialEq, Eq)]
@@ -70,7 +70,7 @@ fn begun_sort(word: &[u8], line: &[u8]) -> Option<Sort> {
 }
 
 /// What the text seems to be by the first line that says something.
-pub(crate) fn seen_sort(alloc: Global, text: &[u8]) -> Result<Option<Sort>, NoMemory> {
+pub(crate) fn seen_sort(alloc: Global, text: &[u8]) -> Result<Option<Sort>> {
     let mut words = Vec::new(alloc);
     let mut rest = Lines::new(text);
     while let Some(line) = rest.next() {

@@ -1,4 +1,5 @@
 //! Lines of TTCN-3 in a script, and what does the same there.
+use crate::Result;
 use crate::help::Help;
 use crate::slot::has_word;
 use std::alloc::Global;
@@ -99,7 +100,7 @@ pub(crate) fn begins_comment(text: &[u8]) -> bool {
 }
 
 // The first tokens of a line before a comment, but spaces, and the word `component` of `all component`.
-fn read_tokens<'t>(line: &'t [u8], tokens: &mut Vec<&'t [u8]>) -> Result<(), NoMemory> {
+fn read_tokens<'t>(line: &'t [u8], tokens: &mut Vec<&'t [u8]>) -> Result<()> {
     let mut rest = line;
     for _ in 0..TOKENS {
         if rest.is_empty() || begins_comment(rest) {
@@ -164,34 +165,28 @@ fn plain<'a, 't>(tokens: &'a [&'t [u8]]) -> &'a [&'t [u8]] {
     }
 }
 
+// Whether a list may begin or end with this token.
+fn is_bracket(token: &[u8]) -> bool {
+    is_word(token, b"(") || is_word(token, b")")
+}
+
 // How many tokens a list in brackets has that these tokens begin with. The last word of each of its parts is added to
 // those that were found. None if they begin with none, or if there are brackets in it.
-fn take_list<'t>(
-    tokens: &[&'t [u8]],
-    found: &mut Vec<&'t [u8]>,
-) -> Result<Option<usize>, NoMemory> {
-    match tokens {
-        [first, ..] if is_word(first, b"(") => {}
-        _ => return Ok(None),
+fn take_list<'t>(tokens: &[&'t [u8]], found: &mut Vec<&'t [u8]>) -> Result<Option<usize>> {
+    let [first, inside @ ..] = tokens else {
+        return Ok(None);
+    };
+    let count = inside.iter().take_while(|token| !is_bracket(token)).count();
+    let (list, rest) = inside.split_at(count);
+    if !is_word(first, b"(") || !rest.first().is_some_and(|token| is_word(token, b")")) {
+        return Ok(None);
     }
-    let mut last: Option<&'t [u8]> = None;
-    for (at, token) in tokens.iter().enumerate().skip(1) {
-        let closes = is_word(token, b")");
-        if closes || is_word(token, b",") {
-            if let Some(word) = last {
-                found.push(word)?;
-            }
-            last = None;
-        } else if is_word(token, b"(") {
-            return Ok(None);
-        } else {
-            last = Some(token);
-        }
-        if closes {
-            return Ok(Some(at + 1));
+    for part in list.split(|token| is_word(token, b",")) {
+        if let [.., word] = part {
+            found.push(word)?;
         }
     }
-    Ok(None)
+    Ok(Some(count + 2))
 }
 
 // What is in a string.
@@ -202,24 +197,19 @@ fn unquoted(token: &[u8]) -> &[u8] {
     }
 }
 
-// How many of these tokens are one call, if all are.
-fn one_call(tokens: &[&[u8]]) -> Option<usize> {
-    let is_one = !tokens.iter().any(|token| is_word(token, b";"));
-    is_one.then_some(tokens.len())
-}
-
 // How many tokens the part of a form has that these tokens begin with. Its words are added to those that were found. None
 // if they begin with another.
 fn take_part<'t>(
     part: &[u8],
     tokens: &[&'t [u8]],
     found: &mut Vec<&'t [u8]>,
-) -> Result<Option<usize>, NoMemory> {
+) -> Result<Option<usize>> {
     if is_word(part, b"*") {
         return take_list(tokens, found);
     }
     if is_word(part, b"..") {
-        return Ok(one_call(tokens));
+        let is_one_call = !tokens.iter().any(|token| is_word(token, b";"));
+        return Ok(is_one_call.then_some(tokens.len()));
     }
     let [token, ..] = tokens else {
         return Ok(None);
@@ -235,11 +225,7 @@ fn take_part<'t>(
 }
 
 // Whether the tokens are of this form, as in `FORMS`. Its words are added to those that were found.
-fn has_form<'t>(
-    form: &[&[u8]],
-    tokens: &[&'t [u8]],
-    found: &mut Vec<&'t [u8]>,
-) -> Result<bool, NoMemory> {
+fn has_form<'t>(form: &[&[u8]], tokens: &[&'t [u8]], found: &mut Vec<&'t [u8]>) -> Result<bool> {
     let mut taken = 0usize;
     for part in form {
         let rest = tokens.get(taken..).unwrap_or(&[]);
@@ -252,7 +238,7 @@ fn has_form<'t>(
 }
 
 // The words with a space between two.
-fn joined(alloc: Global, words: &[&[u8]]) -> Result<Vec<u8>, NoMemory> {
+fn joined(alloc: Global, words: &[&[u8]]) -> Result<Vec<u8>> {
     let mut line = Vec::new(alloc);
     for word in words {
         if !line.is_empty() {
@@ -264,7 +250,7 @@ fn joined(alloc: Global, words: &[&[u8]]) -> Result<Vec<u8>, NoMemory> {
 }
 
 // The line of a script, with the next of the words that were found for each `$`, and all that are left for `*`.
-fn filled<'t>(alloc: Global, line: &'t str, found: &[&'t [u8]]) -> Result<Vec<u8>, NoMemory> {
+fn filled<'t>(alloc: Global, line: &'t str, found: &[&'t [u8]]) -> Result<Vec<u8>> {
     let mut words = Vec::new(alloc);
     let mut rest = found;
     for part in line.as_bytes().split(|byte| *byte == b' ') {
@@ -281,7 +267,7 @@ fn filled<'t>(alloc: Global, line: &'t str, found: &[&'t [u8]]) -> Result<Vec<u8
 }
 
 // Whether the reader of scripts understands the line, and it says something.
-fn is_line(alloc: Global, line: &[u8]) -> Result<bool, NoMemory> {
+fn is_line(alloc: Global, line: &[u8]) -> Result<bool> {
     let mut words = Vec::new(alloc);
     match read_line(alloc, line, &mut words) {
         Ok(line) => Ok(!matches!(&line, Line::Skipped)),
@@ -295,7 +281,7 @@ fn line_by<'t>(
     alloc: Global,
     (source, line): (&'t str, &'t str),
     tokens: &[&'t [u8]],
-) -> Result<Vec<u8>, NoMemory> {
+) -> Result<Vec<u8>> {
     let mut form = Vec::new(alloc);
     read_words(source.as_bytes(), &mut form)?;
     let mut found = Vec::new(alloc);
@@ -307,7 +293,7 @@ fn line_by<'t>(
 }
 
 // The line of a script that does the same as these tokens, or the tokens.
-fn translated(alloc: Global, tokens: &[&[u8]]) -> Result<Vec<u8>, NoMemory> {
+fn translated(alloc: Global, tokens: &[&[u8]]) -> Result<Vec<u8>> {
     for form in &FORMS {
         let line = line_by(alloc, *form, tokens)?;
         if is_line(alloc, line.as_slice())? {
@@ -318,7 +304,7 @@ fn translated(alloc: Global, tokens: &[&[u8]]) -> Result<Vec<u8>, NoMemory> {
 }
 
 // Adds what a script has instead of a line of these tokens.
-fn add_instead(help: &mut Help, tokens: &[&[u8]]) -> Result<(), NoMemory> {
+fn add_instead(help: &mut Help, tokens: &[&[u8]]) -> Result<()> {
     let line = translated(help.alloc, plain(tokens))?;
     if line.len() <= LONGEST && is_line(help.alloc, line.as_slice())? {
         return help.add_words("in a script:", &[line.as_slice()], "");
@@ -329,7 +315,7 @@ fn add_instead(help: &mut Help, tokens: &[&[u8]]) -> Result<(), NoMemory> {
 }
 
 /// Adds what a script has instead of the line, if it seems to be of TTCN-3. Whether it does.
-pub(crate) fn add_source(help: &mut Help) -> Result<bool, NoMemory> {
+pub(crate) fn add_source(help: &mut Help) -> Result<bool> {
     let mut tokens = Vec::new(help.alloc);
     read_tokens(help.line, &mut tokens)?;
     if !is_source(tokens.as_slice()) {

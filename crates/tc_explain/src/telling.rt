@@ -1,6 +1,5 @@
 //! What is printed about a refused text.
-ghost use Rattle.std.specs.Prelude.{◌<◌, ◌+◌, ◌^◌, [], ◌∷◌, IfOk, OnOk, length, not, option_copied};
-ghost use Rattle.std.specs.{Fmt.decimal, List.position, Option.option_map_or};
+ghost use Rattle.std.specs.{Prelude.{◌<◌, ◌+◌, ◌^◌, [], ◌∷◌, IfOk, OnOk, length, not, option_copied}, Fmt.decimal, List.position, Option.option_map_or};
 ghost use Rattle.tc_text.specs.Prelude.{TellsAmong, TellsLine, is_plain};
 ghost use Rattle.tc_explain.specs.Explanation.{explanation, line_note, open_note, quoted};
 

@@ -1,5 +1,5 @@
 use Rattle.std.proofs.Common.{ℕ, ◌≡◌, ◌≢◌, ◌<◌, ◌+◌, ◌-◌, length, slice_index}
-use Rattle.tc_explain.proofs.places.space_of.Given as goal
+use Rattle.tc_explain.proofs.hints.space_of.Given as goal
 
 -- none so far is one too many
 abbrev pub invariant-loop-at : goal.invariant-loop-at
