@@ -1,14 +1,13 @@
 //! A test case that is open.
-ghost use Rattle.std.specs.Prelude.{◌≡◌, ◌<◌, ◌++◌, ◌∷◌, [], nat_lt, true, ℕ, List, length, drop, IfOk, OnOk, None, ◌&&◌, if◌then◌else◌};
-ghost use Rattle.std.specs.{Io.StartsWith, Result.result_err};
+ghost use Rattle.std.specs.{Prelude.{◌≡◌, ◌<◌, ◌++◌, ◌∷◌, [], nat_lt, true, ℕ, List, length, drop, IfOk, OnOk, None, ◌&&◌, if◌then◌else◌}, Io.StartsWith, Result.result_err};
 ghost use Rattle.tc_rules.specs.Prelude.{IsBehaviours, Op as AnyOp, Reply as AnyReply, is_parked, started_run as spec_started};
-ghost use Rattle.tc_text.specs.Prelude.{move_text};
-ghost use Rattle.tc_blocks.specs.Prelude.{outcome_text, with_lf, entry_in, is_met, AreMet};
 ghost use Rattle.tc_rules.specs.Local as verdicts;
 ghost use Rattle.tc_rules.specs.Waiting as waits;
+ghost use Rattle.tc_text.specs.Prelude.{move_text};
+ghost use Rattle.tc_blocks.specs.Prelude.{outcome_text, with_lf, entry_in, is_met, AreMet};
 ghost use Rattle.tc_serve.specs.{Inside.{Becomes, BecomesAwake, Changes, IsCalled, IsOpen, IsPassed, Moves, after_call, entry, wakes_nobody as spec_wakes_nobody, woken_once, called, counted as spec_counted}, Protocol.{Played as AnyPlayed, made, played_past, sleep_of as spec_sleep, why_text, with_added_line, with_name, woken}};
 
-use crate::order::Refusal;
+use crate::order::{Refusal, Tried};
 use crate::sleepers::{Sleeper, add, awaited_by};
 use std::alloc::Global;
 use tc_blocks::{Line, MetRuns, append_line, append_said};
@@ -153,12 +152,7 @@ impl OpenCase {
 
     /// Adds the line of this run, which is no entry; why it is refused, if it is. If memory runs out, a part of it is
     /// appended.
-    pub fn add(
-        &mut self,
-        run: Run,
-        line: &Line,
-        out: &mut Vec<u8>,
-    ) -> Result<Option<Refusal>, NoMemory>
+    pub fn add(&mut self, run: Run, line: &Line, out: &mut Vec<u8>) -> Tried
         requires { entry_in line.now ≡ [] }
         ensures ok { IfOk result (λ why. Changes (with_added_line run line.now) why self.old self.new out.old.items out.new.items) }
         ensures any { StartsWith out.new.items out.old.items }
@@ -172,12 +166,7 @@ impl OpenCase {
     }
 
     /// Names the behaviour of the run; why that is refused, if it is. If memory runs out, a part of its line is appended.
-    pub fn name(
-        &mut self,
-        run: Run,
-        name: Name,
-        out: &mut Vec<u8>,
-    ) -> Result<Option<Refusal>, NoMemory>
+    pub fn name(&mut self, run: Run, name: Name, out: &mut Vec<u8>) -> Tried
         ensures ok { IfOk result (λ why. Changes (with_name run name) why self.old self.new out.old.items out.new.items) }
         ensures any { StartsWith out.new.items out.old.items }
     {
@@ -188,12 +177,7 @@ impl OpenCase {
     }
 
     /// Adds that a line of the run was refused; why even that is refused, if it is. If memory runs out, a part is appended.
-    pub fn refuse(
-        &mut self,
-        run: Run,
-        why: Refusal,
-        out: &mut Vec<u8>,
-    ) -> Result<Option<Refusal>, NoMemory>
+    pub fn refuse(&mut self, run: Run, why: Refusal, out: &mut Vec<u8>) -> Tried
         ensures ok { IfOk result (λ other. Changes (with_added_line run (Line.Refused run (why_text why))) other
             self.old self.new out.old.items out.new.items) }
         ensures any { StartsWith out.new.items out.old.items }
@@ -302,13 +286,7 @@ impl OpenCase {
 
     /// Makes the call that the line asks for, and appends its entry, and those of the wakes; why it is refused, if it is. If
     /// memory runs out, a part of these is appended.
-    pub fn make(
-        &mut self,
-        caller: Run,
-        op: Op,
-        line: &[u8],
-        out: &mut Vec<u8>,
-    ) -> Result<Option<Refusal>, NoMemory>
+    pub fn make(&mut self, caller: Run, op: Op, line: &[u8], out: &mut Vec<u8>) -> Tried
         requires { line.now ≡ move_text caller.0 op }
         ensures ok { IfOk result (λ why. Changes (made caller op) why self.old self.new out.old.items out.new.items) }
         ensures any { StartsWith out.new.items out.old.items }

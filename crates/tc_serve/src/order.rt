@@ -30,6 +30,9 @@ pub(crate) enum Order {
     End,
 }
 
+/// Why what was asked for is refused, if it is.
+pub(crate) type Tried = Result<Option<Refusal>, NoMemory>;
+
 /// Why a line is refused. It is refused for the first of these that holds, in this order.
 #[derive(Clone, Copy, PartialEq, Eq, Debug)]
 pub enum Refusal {

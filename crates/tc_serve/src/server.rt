@@ -1,13 +1,11 @@
 //! What is done with a line.
-ghost use Rattle.std.specs.Prelude.{◌≡◌, ◌<◌, ◌^◌, [], ℕ, List, is_some, true, Some, IfOk, MatchOption};
-ghost use Rattle.std.specs.Io.{StartsWith};
+ghost use Rattle.std.specs.{Prelude.{◌≡◌, ◌<◌, ◌^◌, [], ℕ, List, is_some, true, Some, IfOk, MatchOption}, Io.StartsWith};
 ghost use Rattle.tc_rules.specs.Prelude.{IsBehaviours};
 ghost use Rattle.tc_text.specs.Prelude.{move_text};
 ghost use Rattle.tc_serve.specs.{Inside.StandsAs, Inside.TellsRun, Inside.Tries, Inside.TriesLine, Inside.start as spec_start, Protocol.IsOf, Protocol.IsOrder, Protocol.ServiceState as AnyStand, Protocol.after_order, Protocol.made, Protocol.order_text, Protocol.with_added_line, Protocol.with_name, Protocol.with_open, Serve.worst_case};
 
 use crate::open_case::OpenCase;
-use crate::order::{Order, Refusal, read_order, read_short_move};
-use std::alloc::Global;
+use crate::order::{Order, Refusal, Tried, read_order, read_short_move};
 use tc_blocks::{Header, Kind, Line, Sentence, append_end, append_first_line};
 use tc_entry::{Name, NoMemory, Op, Run, Verdict};
 use tc_text::take_run;
@@ -58,13 +56,7 @@ impl Server {
     }
 
     // Opens a test case, if none is open; why it is refused, if it is.
-    fn begin(
-        &mut self,
-        alloc: Global,
-        name: Name,
-        behaviours: u16,
-        out: &mut Vec<u8>,
-    ) -> Result<Option<Refusal>, NoMemory>
+    fn begin(&mut self, name: Name, behaviours: u16, out: &mut Vec<u8>) -> Tried
         requires { IsBehaviours behaviours }
         ensures ok { IfOk result (λ why. Tries (λ s. after_order s (Order.Case name behaviours)) why self.old self.new out.old.items out.new.items) }
         ensures any { StartsWith out.new.items out.old.items }
@@ -78,12 +70,12 @@ impl Server {
             behaviours,
         };
         append_first_line(out, &header)?;
-        self.current = Some(OpenCase::new(alloc, behaviours)?);
+        self.current = Some(OpenCase::new(*out.allocator(), behaviours)?);
         Ok(None)
     }
 
     // Names the behaviour of the run in the test case that is open; why that is refused, if it is.
-    fn name(&mut self, run: Run, name: Name, out: &mut Vec<u8>) -> Result<Option<Refusal>, NoMemory>
+    fn name(&mut self, run: Run, name: Name, out: &mut Vec<u8>) -> Tried
         ensures ok { IfOk result (λ why. Tries (λ s. with_open s (with_name run name)) why self.old self.new out.old.items out.new.items) }
         ensures any { StartsWith out.new.items out.old.items }
     {
@@ -94,13 +86,7 @@ impl Server {
     }
 
     // Makes the call that the line asks for in the test case that is open; why it is refused, if it is.
-    fn make(
-        &mut self,
-        caller: Run,
-        op: Op,
-        line: &[u8],
-        out: &mut Vec<u8>,
-    ) -> Result<Option<Refusal>, NoMemory>
+    fn make(&mut self, caller: Run, op: Op, line: &[u8], out: &mut Vec<u8>) -> Tried
         requires { line.now ≡ move_text caller.0 op }
         ensures ok { IfOk result (λ why. Tries (λ s. with_open s (made caller op)) why self.old self.new out.old.items out.new.items) }
         ensures any { StartsWith out.new.items out.old.items }
@@ -112,12 +98,7 @@ impl Server {
     }
 
     // Adds a remark to the test case that is open; why it is refused, if it is.
-    fn remark(
-        &mut self,
-        run: Run,
-        sentence: Sentence,
-        out: &mut Vec<u8>,
-    ) -> Result<Option<Refusal>, NoMemory>
+    fn remark(&mut self, run: Run, sentence: Sentence, out: &mut Vec<u8>) -> Tried
         ensures ok { IfOk result (λ why. Tries (λ s. with_open s (with_added_line run (Line.Remark run sentence))) why
             self.old self.new out.old.items out.new.items) }
         ensures any { StartsWith out.new.items out.old.items }
@@ -129,7 +110,7 @@ impl Server {
     }
 
     /// Closes the test case that is open; why that is refused, if it is.
-    pub fn close(&mut self, out: &mut Vec<u8>) -> Result<Option<Refusal>, NoMemory>
+    pub fn close(&mut self, out: &mut Vec<u8>) -> Tried
         ensures ok { IfOk result (λ why. Tries (λ s. after_order s Order.End) why self.old self.new out.old.items out.new.items) }
         ensures any { StartsWith out.new.items out.old.items }
     {
@@ -143,20 +124,14 @@ impl Server {
 
     // Does what the line asks for; why it is refused, if it is. If memory runs out, a part of its text may have been
     // appended.
-    fn take(
-        &mut self,
-        alloc: Global,
-        order: Order,
-        line: &[u8],
-        out: &mut Vec<u8>,
-    ) -> Result<Option<Refusal>, NoMemory>
+    fn take(&mut self, order: Order, line: &[u8], out: &mut Vec<u8>) -> Tried
         requires fits { IsOrder order }
         requires spelled { line.now ≡ order_text order }
         ensures ok { IfOk result (λ why. Tries (λ s. after_order s order) why self.old self.new out.old.items out.new.items) }
         ensures any { StartsWith out.new.items out.old.items }
     {
         match order {
-            Order::Case { name, behaviours } => self.begin(alloc, name, behaviours, out),
+            Order::Case { name, behaviours } => self.begin(name, behaviours, out),
             Order::Named { run, name } => self.name(run, name, out),
             Order::Move { caller, op } => self.make(caller, op, line, out),
             Order::Remark { run, sentence } => self.remark(run, sentence, out),
@@ -167,17 +142,12 @@ impl Server {
     // Does what the line asks for, and appends its text; why it is refused, if it is. If memory runs out, a part of the text
     // may have been appended.
     #[inline(never)]
-    fn try_any(
-        &mut self,
-        alloc: Global,
-        line: &[u8],
-        out: &mut Vec<u8>,
-    ) -> Result<Option<Refusal>, NoMemory>
+    fn try_any(&mut self, line: &[u8], out: &mut Vec<u8>) -> Tried
         ensures ok { IfOk result (λ why. TriesLine true line.now why self.old self.new out.old.items out.new.items) }
         ensures any { StartsWith out.new.items out.old.items }
     {
-        match read_order(alloc, line)? {
-            Ok(order) => self.take(alloc, order, line, out),
+        match read_order(*out.allocator(), line)? {
+            Ok(order) => self.take(order, line, out),
             Err(why) => Ok(Some(why)),
         }
     }
@@ -186,13 +156,7 @@ impl Server {
     /// for nothing. If memory runs out, a part of the text may have been appended.
     ///
     /// Most lines are moves whose operation is small, and so quickly passed on: they are tried first.
-    pub fn try_line(
-        &mut self,
-        alloc: Global,
-        ended: bool,
-        line: &[u8],
-        out: &mut Vec<u8>,
-    ) -> Result<Option<Refusal>, NoMemory>
+    pub fn try_line(&mut self, ended: bool, line: &[u8], out: &mut Vec<u8>) -> Tried
         ensures ok { IfOk result (λ why. TriesLine ended line.now why self.old self.new out.old.items out.new.items) }
         ensures any { StartsWith out.new.items out.old.items }
     {
@@ -202,7 +166,7 @@ impl Server {
         if let Some((caller, op)) = read_short_move(line) {
             return self.make(caller, op.op(), line, out);
         }
-        self.try_any(alloc, line, out)
+        self.try_any(line, out)
     }
 
     /// The run that the refused line begins with gets the refusal, if it is one of a test case that is open. If memory

@@ -1,6 +1,5 @@
 //! The service itself.
-ghost use Rattle.std.specs.Prelude.{◌≡◌, ◌+◌, ◌≤◌, ◌<◌, ◌^◌, ◌↔◌, not, true, false, [], ℕ, Bool, List, Option, is_err, length, OnOk, OnErr, IsErrOf};
-ghost use Rattle.std.specs.{Borrow.GName, Io.KnownBytes.Appends};
+ghost use Rattle.std.specs.{Prelude.{◌≡◌, ◌+◌, ◌≤◌, ◌<◌, ◌^◌, ◌↔◌, not, true, false, [], ℕ, Bool, List, Option, is_err, length, OnOk, OnErr, IsErrOf}, Borrow.GName, Io.KnownBytes.Appends};
 ghost use Rattle.tc_stream.specs.Prelude.{AppendsPrefix};
 ghost use Rattle.tc_serve.specs.{Inside.Hears, Inside.IsAt, Inside.IsFed, Inside.IsTurn, Serve.Devices as AnyDevices, Serve.IsServiceEnd, Serve.devices};
 
@@ -143,7 +142,6 @@ fn tell<E: CountedWrite>(errors: &mut E, heard: bool, text: &[u8]) -> bool
 
 // One read, and the answers to the lines that end in what it gave; what came of the input, if it has ended.
 fn turn<R: CountedRead, W: FlushedWrite, E: CountedWrite>(
-    alloc: Global,
     chunk: &mut [u8],
     texts: &mut Texts,
     serving: &mut Serving,
@@ -174,7 +172,7 @@ fn turn<R: CountedRead, W: FlushedWrite, E: CountedWrite>(
     };
     texts.out.clear();
     texts.told.clear();
-    let end = serving.take_read(alloc, &chunk[..count], &mut texts.out, &mut texts.told);
+    let end = serving.take_read(&chunk[..count], &mut texts.out, &mut texts.told);
     let taken = tell(errors, *heard, texts.told.as_slice());
     *heard = taken;
     match writer.put(texts.out.as_slice()) {
@@ -186,7 +184,6 @@ fn turn<R: CountedRead, W: FlushedWrite, E: CountedWrite>(
 // Serves each line of the reader, until the input or a fault ends the service. `Read` is returned exactly if a read failed,
 // and `Write` exactly if a text could not be written or flushed.
 fn serve_lines<R: CountedRead, W: FlushedWrite, E: CountedWrite>(
-    alloc: Global,
     texts: &mut Texts,
     serving: &mut Serving,
     reader: &mut R,
@@ -209,9 +206,7 @@ fn serve_lines<R: CountedRead, W: FlushedWrite, E: CountedWrite>(
 {
     let mut chunk = [0u8; 4096];
     for _turns in 0..u64::MAX {
-        match turn(
-            alloc, &mut chunk, texts, serving, reader, writer, errors, heard,
-        ) {
+        match turn(&mut chunk, texts, serving, reader, writer, errors, heard) {
             Ok(Some(served)) => return Ok(served),
             Ok(None) => (),
             Err(fault) => return Err(fault),
@@ -238,7 +233,6 @@ pub fn serve<R: Read, W: Write, E: Write>(
     let mut serving = Serving::new(alloc);
     let mut told = true;
     let outcome = serve_lines(
-        alloc,
         &mut texts,
         &mut serving,
         &mut CountedReader::new(reader),

@@ -1,6 +1,5 @@
 //! Lines that come in pieces.
-ghost use Rattle.std.specs.Prelude.{◌≡◌, ◌≢◌, ◌<◌, ◌-◌, ◌++◌, ◌∷◌, [], ℕ, List, Option, Err, IfOk, IfErr, OnOk, OnErr, length, take};
-ghost use Rattle.std.specs.Io.{KnownBytes.IsAtEnd, StartsWith};
+ghost use Rattle.std.specs.{Prelude.{◌≡◌, ◌≢◌, ◌<◌, ◌-◌, ◌++◌, ◌∷◌, [], ℕ, List, Option, Err, IfOk, IfErr, OnOk, OnErr, length, take}, Io.{KnownBytes.IsAtEnd, StartsWith}};
 ghost use Rattle.tc_serve.specs.{Inside.{Closes, Fails, Feeds, IsEnd, IsFed, IsOwn, IsTurn, Serves, StopsIn, TakesPiece, end_told}, Protocol.NoLf, Serve.{HasEnded, refused_line_text}};
 
 use crate::order::{LINE_BYTES, Refusal};
@@ -77,7 +76,6 @@ impl Serving {
     // Serves the line, which LF ended or the input; if a fault ends the service, a part may have been appended.
     fn answer(
         &mut self,
-        alloc: Global,
         ended: bool,
         out: &mut Vec<u8>,
         told: &mut Vec<u8>,
@@ -93,7 +91,7 @@ impl Serving {
         }
         self.lines += 1;
         let line = self.line.as_slice();
-        let Some(why) = self.server.try_line(alloc, ended, line, out)? else {
+        let Some(why) = self.server.try_line(ended, line, out)? else {
             return Ok(());
         };
         if !self.server.is_open() {
@@ -110,7 +108,6 @@ impl Serving {
     // Serves the line, which LF ended or the input; if a fault ends the service, nothing is appended.
     fn serve_line(
         &mut self,
-        alloc: Global,
         ended: bool,
         out: &mut Vec<u8>,
         told: &mut Vec<u8>,
@@ -123,7 +120,7 @@ impl Serving {
     {
         let written = out.len();
         let said = told.len();
-        match self.answer(alloc, ended, out, told) {
+        match self.answer(ended, out, told) {
             Ok(()) => Ok(()),
             Err(fault) => {
                 out.truncate(written);
@@ -134,12 +131,7 @@ impl Serving {
     }
 
     // Serves the line that LF ended, and begins the next one.
-    fn end_line(
-        &mut self,
-        alloc: Global,
-        out: &mut Vec<u8>,
-        told: &mut Vec<u8>,
-    ) -> Result<(), ServeFault>
+    fn end_line(&mut self, out: &mut Vec<u8>, told: &mut Vec<u8>) -> Result<(), ServeFault>
         ensures ok { OnOk result ((bytes before before' : List ℕ) → IsFed bytes self.old before out.old.items before' told.old.items
             → IsFed (bytes ++ 10 ∷ []) self.new before out.new.items before' told.new.items) }
         ensures stopped { IfErr result (λ f. (bytes more before before' : List ℕ) (input : Option (List ℕ))
@@ -147,7 +139,7 @@ impl Serving {
             → HasEnded (bytes ++ 10 ∷ more) input (before ++ out.new.items) (before' ++ told.new.items) (Err f)) }
         ensures own { IfErr result IsOwn }
     {
-        match self.serve_line(alloc, true, out, told) {
+        match self.serve_line(true, out, told) {
             Ok(()) => {
                 self.line.clear();
                 Ok(())
@@ -172,7 +164,6 @@ impl Serving {
     // Takes what these bytes begin with of a line, and serves the line if it ends there; what follows.
     fn take<'a>(
         &mut self,
-        alloc: Global,
         bytes: &'a [u8],
         out: &mut Vec<u8>,
         told: &mut Vec<u8>,
@@ -188,7 +179,7 @@ impl Serving {
         }
         match rest.split_first() {
             None => Ok(rest),
-            Some((_, behind)) => match self.end_line(alloc, out, told) {
+            Some((_, behind)) => match self.end_line(out, told) {
                 Ok(()) => Ok(behind),
                 Err(fault) => Err(fault),
             },
@@ -198,7 +189,6 @@ impl Serving {
     // Takes these bytes, and serves each line that ends in them.
     fn feed(
         &mut self,
-        alloc: Global,
         bytes: &[u8],
         out: &mut Vec<u8>,
         told: &mut Vec<u8>,
@@ -209,7 +199,7 @@ impl Serving {
     {
         let mut rest = bytes;
         while !rest.is_empty() {
-            match self.take(alloc, rest, out, told) {
+            match self.take(rest, out, told) {
                 Ok(behind) => rest = behind,
                 Err(fault) => return Err(fault),
             }
@@ -218,12 +208,7 @@ impl Serving {
     }
 
     // Serves a last line that no LF ends, if there is one.
-    fn end_last(
-        &mut self,
-        alloc: Global,
-        out: &mut Vec<u8>,
-        told: &mut Vec<u8>,
-    ) -> Result<(), ServeFault>
+    fn end_last(&mut self, out: &mut Vec<u8>, told: &mut Vec<u8>) -> Result<(), ServeFault>
         ensures ok { OnOk result ((bytes before before' : List ℕ) → IsFed bytes self.old before out.old.items before' told.old.items
             → IsEnd bytes self.new before out.new.items before' told.new.items) }
         ensures stopped { IfErr result (λ f. (bytes before before' : List ℕ) (input : Option (List ℕ)) → IsAtEnd input
@@ -234,7 +219,7 @@ impl Serving {
         if self.line.is_empty() {
             return Ok(());
         }
-        match self.serve_line(alloc, false, out, told) {
+        match self.serve_line(false, out, told) {
             Ok(()) => Ok(()),
             Err(fault) => Err(fault),
         }
@@ -261,18 +246,13 @@ impl Serving {
     }
 
     // The input has ended: serves a last line that no LF ends, if there is one, and closes the test case that is open.
-    fn finish(
-        &mut self,
-        alloc: Global,
-        out: &mut Vec<u8>,
-        told: &mut Vec<u8>,
-    ) -> Result<Served, ServeFault>
+    fn finish(&mut self, out: &mut Vec<u8>, told: &mut Vec<u8>) -> Result<Served, ServeFault>
         ensures ended { (bytes before before' : List ℕ) (input : Option (List ℕ)) → IsAtEnd input
             → IsFed bytes self.old before out.old.items before' told.old.items
             → HasEnded bytes input (before ++ out.new.items) (before' ++ told.new.items) result }
         ensures own { IfErr result IsOwn }
     {
-        if let Err(fault) = self.end_last(alloc, out, told) {
+        if let Err(fault) = self.end_last(out, told) {
             return Err(fault);
         }
         match self.close(out, told) {
@@ -289,7 +269,6 @@ impl Serving {
     /// texts of the lines before it were appended.
     pub fn take_read(
         &mut self,
-        alloc: Global,
         bytes: &[u8],
         out: &mut Vec<u8>,
         told: &mut Vec<u8>,
@@ -301,9 +280,9 @@ impl Serving {
         ensures own { IfErr result IsOwn }
     {
         if bytes.is_empty() {
-            return Ok(Some(self.finish(alloc, out, told)?));
+            return Ok(Some(self.finish(out, told)?));
         }
-        self.feed(alloc, bytes, out, told)?;
+        self.feed(bytes, out, told)?;
         Ok(None)
     }
 }
