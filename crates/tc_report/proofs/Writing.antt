@@ -60,11 +60,6 @@ joined old first second third a b p q = rw (q, p) (append_assoc (old ++ first) s
 pub joined_four : (old a b d e x y z : List ℕ) → x ≡ old ++ a → y ≡ x ++ b → z ≡ y ++ d → z ++ e ≡ old ++ (a ++ (b ++ (d ++ e)))
 joined_four old a b d e x y z p q r = rw (r, q, p) (append_assoc ((old ++ a) ++ b) d e ∙ (append_assoc (old ++ a) b (d ++ e) ∙ append_assoc old a (b ++ (d ++ e))))
 
-pub joined_five : (old a b d f e x y z w : List ℕ) → x ≡ old ++ a → y ≡ x ++ b → z ≡ y ++ d → w ≡ z ++ f
-    → w ++ e ≡ old ++ (a ++ (b ++ (d ++ (f ++ e))))
-joined_five old a b d f e x y z w p q r s =
-    rw (s, r, q, p) (append_assoc (((old ++ a) ++ b) ++ d) f e ∙ (append_assoc ((old ++ a) ++ b) d (f ++ e) ∙ (append_assoc (old ++ a) b (d ++ (f ++ e)) ∙ append_assoc old a (b ++ (d ++ (f ++ e))))))
-
 module _ (h : Header) (names : List (List ℕ)) (history : List Entry) (v : Verdict) where
   abbrev first_line : List ℕ
   first_line = with_lf (header_text h)

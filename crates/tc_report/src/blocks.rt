@@ -1,8 +1,6 @@
 //! The histories and the evidence of a campaign.
-ghost use Rattle.std.specs.Prelude.{◌≡◌, ◌≤◌, ◌++◌, OnOk, IfErr, length, take};
-ghost use Rattle.std.specs.{Io.KnownBytes.Appends, List.flat_map};
-ghost use Rattle.tc_blocks.specs.declared.header.Kind.TheVariants.{Evidence, History2};
-ghost use Rattle.tc_blocks.specs.Prelude.{with_lf, line_text, naming_text};
+ghost use Rattle.std.specs.{Prelude.{◌≡◌, ◌≤◌, ◌++◌, OnOk, IfErr, length, take}, Io.KnownBytes.Appends, List.flat_map};
+ghost use Rattle.tc_blocks.specs.{declared.header.Kind.TheVariants.{Evidence, History2}, Prelude.{with_lf, line_text, naming_text}};
 ghost use Rattle.tc_report.specs.{Blocks.block_names, Blocks.blocks_text, Blocks.case_block, Blocks.named_block, Inside.namings, Output.LeavesPrefix};
 
 use crate::fault::OutFault;
@@ -16,14 +14,10 @@ use tc_entry::{Entry, Name, NoMemory, Run, Verdict};
 fn append_naming(out: &mut Vec<u8>, run: u16, name: &Name) -> Result<(), NoMemory>
     ensures { OnOk result (out.new.items ≡ out.old.items ++ with_lf (naming_text run name.now)) }
 {
-    let line = Line::Named {
-        run: Run(run),
-        name: name.copy(),
-    };
-    append_line(out, &line)
+    let (run, name) = (Run(run), name.copy());
+    append_line(out, &Line::Named { run, name })
 }
 
-// Appends the name of each behaviour.
 fn append_namings(out: &mut Vec<u8>, names: &[Name]) -> Result<(), NoMemory>
     requires { length names.now ≤ u16.MAX }
     ensures { OnOk result (out.new.items ≡ out.old.items
@@ -87,16 +81,10 @@ pub(crate) fn append_block(out: &mut Vec<u8>, kind: Kind, case: &Finished) -> Re
         behaviours: report.behaviours,
     };
     let names = names_in_block(kind, case);
-    append_named_block(
-        out,
-        &header,
-        names,
-        report.history.as_slice(),
-        report.verdict,
-    )
+    let history = report.history.as_slice();
+    append_named_block(out, &header, names, history, report.verdict)
 }
 
-// Appends the block of each finished test case.
 fn append_blocks(out: &mut Vec<u8>, kind: Kind, cases: &[Finished]) -> Result<(), NoMemory>
     ensures { OnOk result (out.new.items ≡ out.old.items ++ flat_map (case_block kind) cases.now) }
 {
@@ -106,7 +94,6 @@ fn append_blocks(out: &mut Vec<u8>, kind: Kind, cases: &[Finished]) -> Result<()
     Ok(())
 }
 
-// Writes the block of each finished test case.
 fn write_blocks<W: Write>(
     alloc: Global,
     kind: Kind,

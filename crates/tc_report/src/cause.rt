@@ -1,7 +1,6 @@
 //! The call that decided the verdict of a test case, and its caller.
-ghost use Rattle.std.specs.Prelude.{◌≡◌, ◌<◌, ◌==◌, ◌++◌, ◌∷◌, [], Some, IfOk, OnOk, codes, filter, if◌then◌else◌, length, slice_get};
-ghost use Rattle.std.specs.{List.flat_map, Option.option_map, Option.option_map_or};
-ghost use Rattle.tc_rules.specs.Prelude.{Comp as AnyComp, is_by, part};
+ghost use Rattle.std.specs.{Prelude.{◌≡◌, ◌<◌, ◌==◌, ◌++◌, [], Some, IfOk, OnOk, codes, filter, if◌then◌else◌, length}, List.flat_map, Option.option_map_or};
+ghost use Rattle.tc_rules.specs.Prelude.{Comp as AnyComp, part};
 ghost use Rattle.tc_report.specs.InWords.{component_in};
 ghost use Rattle.tc_report.specs.Cause as spec;
 
@@ -32,26 +31,12 @@ pub struct Cause {
     pub again: Option<Run>,
 }
 
-// Adds a copy of the entry if it is one of the run.
-fn add_if_by(log: &mut Vec<Entry>, run: Run, entry: &Entry) -> Result<(), NoMemory>
-    ensures { OnOk result (log.new.items ≡ log.old.items ++ filter (is_by run.0) (entry.now ∷ [])) }
-{
-    if entry.caller.0 == run.0 {
-        log.push(entry.copy())?;
-    }
-    Ok(())
-}
-
-// The entries of the run.
 #[tactic(auto, unfolding(tc_rules::specs::Merge::part))]
 fn log_of(alloc: Global, history: &[Entry], run: Run) -> Result<Vec<Entry>, NoMemory>
     ensures { IfOk result (λ v. v.items ≡ part history.now run.0) }
 {
-    let mut log = Vec::new(alloc);
-    for entry in history {
-        add_if_by(&mut log, run, entry)?;
-    }
-    Ok(log)
+    let log = history.iter().filter(|entry| entry.caller.0 == run.0);
+    Ok(log.map(|entry| entry.copy()).collect(alloc)?)
 }
 
 /// How many of these entries are of the run.
@@ -59,13 +44,10 @@ fn log_of(alloc: Global, history: &[Entry], run: Run) -> Result<Vec<Entry>, NoMe
 pub(crate) fn count_by(entries: &[Entry], run: Run) -> usize
     ensures { result ≡ length (part entries.now run.0) }
 {
-    entries
-        .iter()
-        .filter(|entry| entry.caller.0 == run.0)
-        .count()
+    let found = entries.iter().filter(|entry| entry.caller.0 == run.0);
+    found.count()
 }
 
-// The entry at this place of the history with these remarks, and its caller.
 fn cause_by(
     alloc: Global,
     remarks: &[Remark],
@@ -88,21 +70,6 @@ fn cause_by(
     })
 }
 
-// The entry at this place, and its caller.
-fn cause_at(
-    alloc: Global,
-    remarks: &[Remark],
-    history: &[Entry],
-    at: usize,
-) -> Result<Cause, NoMemory>
-    requires { at < length history.now }
-    ensures { IfOk result (λ cause. Some cause
-        ≡ option_map (spec.cause_by remarks.now history.now at) (slice_get history.now at)) }
-{
-    cause_by(alloc, remarks, history, at, &history[at])
-}
-
-// What decided the verdict of this history with these remarks, if an entry did.
 #[tactic(auto, unfolding(crate::specs::Cause::deciding_cause))]
 fn deciding_cause(
     alloc: Global,
@@ -112,7 +79,7 @@ fn deciding_cause(
     ensures { IfOk result (λ cause. cause ≡ spec.deciding_cause remarks.now history.now) }
 {
     match deciding_entry(history) {
-        Some(at) => Ok(Some(cause_at(alloc, remarks, history, at)?)),
+        Some(at) => Ok(Some(cause_by(alloc, remarks, history, at, &history[at])?)),
         None => Ok(None),
     }
 }
@@ -134,32 +101,18 @@ pub fn cause_of(
     }
 }
 
-// Appends the component that a run is on.
-fn append_place(out: &mut Vec<u8>, names: &Names, comp: Comp) -> Result<(), NoMemory>
-    ensures { OnOk result (out.new.items ≡ out.old.items
-        ++ ((if comp.0 == 0 then codes " on " else codes " on component ") ++ component_in names.now comp.0)) }
-{
-    let words = if comp.0 == 0 {
-        " on "
-    } else {
-        " on component "
-    };
-    append_text(out, words)?;
-    append_component_in(out, names, comp)
-}
-
-// Appends the component that the run is on, if it is on one.
 fn append_on(out: &mut Vec<u8>, names: &Names, comp: Option<Comp>) -> Result<(), NoMemory>
     ensures { OnOk result (out.new.items ≡ out.old.items ++ option_map_or (λ (k : AnyComp).
         (if k.0 == 0 then codes " on " else codes " on component ") ++ component_in names.now k.0) comp []) }
 {
-    match comp {
-        Some(comp) => append_place(out, names, comp),
-        None => Ok(()),
-    }
+    let Some(comp) = comp else {
+        return Ok(());
+    };
+    let is_main = comp.0 == 0;
+    append_text(out, if is_main { " on " } else { " on component " })?;
+    append_component_in(out, names, comp)
 }
 
-// Appends the run that decided, its component, and the call.
 #[tactic(auto, unfolding(crate::specs::Cause::cause_text))]
 fn append_cause(out: &mut Vec<u8>, names: &Names, cause: &Cause) -> Result<(), NoMemory>
     ensures { OnOk result (out.new.items ≡ out.old.items ++ spec.cause_text names.now cause.now) }
@@ -171,7 +124,6 @@ fn append_cause(out: &mut Vec<u8>, names: &Names, cause: &Cause) -> Result<(), N
     append_named_call(out, names, &cause.entry.op, cause.entry.reply)
 }
 
-// Appends what was said.
 fn append_reason(out: &mut Vec<u8>, said: &Sentence) -> Result<(), NoMemory>
     ensures { OnOk result (out.new.items ≡ out.old.items ++ (codes ": \"" ++ (said.now ++ codes "\""))) }
 {
@@ -180,7 +132,6 @@ fn append_reason(out: &mut Vec<u8>, said: &Sentence) -> Result<(), NoMemory>
     append_text(out, "\"")
 }
 
-// Appends what was said right before and right after the entry that decided.
 fn append_reasons(out: &mut Vec<u8>, said: &[Sentence]) -> Result<(), NoMemory>
     ensures { OnOk result (out.new.items ≡ out.old.items
         ++ flat_map (λ s. codes ": \"" ++ (s ++ codes "\"")) said.now) }

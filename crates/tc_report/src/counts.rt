@@ -12,14 +12,11 @@ pub(crate) fn count_of(verdicts: &[Verdict], verdict: Verdict) -> usize
     verdicts.iter().filter(|one| **one == verdict).count()
 }
 
-// How many of the test cases have this overall verdict.
 fn cases_of(cases: &[Finished], verdict: Verdict) -> usize
     ensures { result ≡ spec_cases verdict cases.now }
 {
-    cases
-        .iter()
-        .filter(|case| case.report.verdict == verdict)
-        .count()
+    let found = cases.iter().filter(|case| case.report.verdict == verdict);
+    found.count()
 }
 
 // The count, with one more if it is so; none if that is no number of the machine.
@@ -52,10 +49,7 @@ fn with_verdict(tally: &Tally, verdict: Verdict) -> Option<Tally>
 pub(crate) fn with_case(tally: &Tally, case: &Finished) -> Result<Tally, NoMemory>
     ensures { IfOk result (λ t. IsOneMore tally.now case.now t) }
 {
-    match with_verdict(tally, case.report.verdict) {
-        Some(tally) => Ok(tally),
-        None => Err(NoMemory),
-    }
+    with_verdict(tally, case.report.verdict).ok_or(NoMemory)
 }
 
 /// The tally of these test cases.

@@ -1,6 +1,5 @@
 //! How a campaign ended, as texts say it.
-ghost use Rattle.std.specs.Prelude.{◌≡◌, ◌++◌, OnOk, OnErr, IfOk};
-ghost use Rattle.std.specs.Io.{KnownBytes.Appends, StartsWith};
+ghost use Rattle.std.specs.{Prelude.{◌≡◌, ◌++◌, OnOk, OnErr, IfOk}, Io.{KnownBytes.Appends, StartsWith}};
 ghost use Rattle.tc_stream.specs.Prelude.{AppendsPrefix};
 ghost use Rattle.tc_report.specs.{Report.abort_text, Report.aborted_text, Report.ending_line, Report.is_aborted, declared.results.CampaignEnd.TheVariants.Aborted};
 

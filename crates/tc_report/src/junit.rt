@@ -1,8 +1,7 @@
 //! The JUnit report.
-ghost use Rattle.std.specs.Prelude.{◌≡◌, ◌==◌, ◌++◌, codes, filter, length, slice_get, unwrap_or, IfOk, IfErr, OnOk};
-ghost use Rattle.std.specs.{Io.KnownBytes.Appends, List.flat_map, Option.option_and_then};
-ghost use Rattle.tc_rules.specs.Prelude.{level_of, name_of as spec_name};
-ghost use Rattle.tc_report.specs.{Cause.decided_text, Output.LeavesPrefix, Status.counted_as as spec_counted, Status.verdict_status as spec_status, declared.summary.Summary.Summary as AnySummary};
+ghost use Rattle.std.specs.{Prelude.{◌≡◌, ◌==◌, ◌++◌, codes, filter, length, slice_get, unwrap_or, IfOk, IfErr, OnOk}, Io.KnownBytes.Appends, List.flat_map, Option.option_and_then};
+ghost use Rattle.tc_rules.specs.Prelude.{level_of};
+ghost use Rattle.tc_report.specs.{Cause.decided_text, Output.LeavesPrefix, Status.counted_as as spec_counted, declared.summary.Summary.Summary as AnySummary};
 ghost use Rattle.tc_report.specs.Junit as spec;
 
 use crate::cause::{Cause, append_decision};
@@ -23,34 +22,22 @@ use tc_entry::{Name, NoMemory, Verdict};
 use tc_text::{append_number, append_text};
 use tc_verdict::name as name_of;
 
-// The status with which an end counts.
-fn status_of_end(ending: CaseEnd) -> u8
-    ensures { result ≡ spec_status (spec_counted ending) }
-{
-    verdict_status(counted_as(ending))
-}
-
-// How many of the test cases count with this status.
 fn with_status(cases: &[Summary], status: u8) -> usize
     ensures { result ≡ spec.with_status status cases.now }
 {
     cases
         .iter()
-        .filter(|case| status_of_end(case.ending) == status)
+        .filter(|case| verdict_status(counted_as(case.ending)) == status)
         .count()
 }
 
-// How many of the test cases count with this verdict.
 fn with_verdict(cases: &[Summary], verdict: Verdict) -> usize
     ensures { result ≡ length (filter (λ (s : AnySummary). level_of (spec_counted s.ending) == level_of verdict) cases.now) }
 {
-    cases
-        .iter()
-        .filter(|case| counted_as(case.ending) == verdict)
-        .count()
+    let found = cases.iter().filter(|one| counted_as(one.ending) == verdict);
+    found.count()
 }
 
-// Appends an attribute that is a number.
 #[tactic(auto, unfolding(crate::specs::Junit::number_text))]
 fn append_attribute(out: &mut Vec<u8>, name: &str, number: usize) -> Result<(), NoMemory>
     ensures { OnOk result (out.new.items ≡ out.old.items ++ spec.number_text name.now number) }
@@ -60,7 +47,6 @@ fn append_attribute(out: &mut Vec<u8>, name: &str, number: usize) -> Result<(), 
     append_text(out, "\"")
 }
 
-// Appends the counts, as attributes.
 #[tactic(auto, unfolding(crate::specs::Junit::counts_attributes))]
 fn append_counts(out: &mut Vec<u8>, cases: &[Summary]) -> Result<(), NoMemory>
     ensures { OnOk result (out.new.items ≡ out.old.items ++ spec.counts_attributes cases.now) }
@@ -71,7 +57,6 @@ fn append_counts(out: &mut Vec<u8>, cases: &[Summary]) -> Result<(), NoMemory>
     append_attribute(out, " skipped=\"", with_verdict(cases, Verdict::None))
 }
 
-// Appends an attribute that is a text.
 #[tactic(auto, unfolding(crate::specs::Junit::attribute_text))]
 fn append_text_attribute(out: &mut Vec<u8>, name: &str, text: &[u8]) -> Result<(), NoMemory>
     ensures { OnOk result (out.new.items ≡ out.old.items ++ spec.attribute_text name.now text.now) }
@@ -94,7 +79,6 @@ fn append_stamp(out: &mut Vec<u8>, begun: Option<DateTime>) -> Result<(), NoMemo
     append_text_attribute(out, " timestamp=\"", text.as_str().as_bytes())
 }
 
-// The name of the suite, by the one that was given.
 fn suite_name(suite: &Option<Name>) -> &[u8]
     ensures { result.now ≡ unwrap_or suite.now (codes "ttrun") }
 {
@@ -104,10 +88,8 @@ fn suite_name(suite: &Option<Name>) -> &[u8]
     }
 }
 
-// Appends the attributes of the suite after its name.
 #[tactic(auto, unfolding(crate::specs::Junit::suite_attributes))]
 fn append_suite_attributes(
-    alloc: Global,
     out: &mut Vec<u8>,
     times: &Times,
     cases: &[Summary],
@@ -116,13 +98,11 @@ fn append_suite_attributes(
 {
     append_counts(out, cases)?;
     append_stamp(out, times.begun)?;
-    append_time(alloc, out, " time=\"", times.whole, "\"")
+    append_time(out, " time=\"", times.whole, "\"")
 }
 
-// Appends the first tags.
 #[tactic(auto, unfolding(crate::specs::Junit::head_text))]
 fn append_head(
-    alloc: Global,
     out: &mut Vec<u8>,
     suite: &[u8],
     times: &Times,
@@ -130,16 +110,13 @@ fn append_head(
 ) -> Result<(), NoMemory>
     ensures { OnOk result (out.new.items ≡ out.old.items ++ spec.head_text suite.now times.now cases.now) }
 {
-    append_text(
-        out,
-        "<?xml version=\"1.0\" encoding=\"UTF-8\"?>\n<testsuites",
-    )?;
+    let first = "<?xml version=\"1.0\" encoding=\"UTF-8\"?>\n<testsuites";
+    append_text(out, first)?;
     append_counts(out, cases)?;
     append_text_attribute(out, ">\n<testsuite name=\"", suite)?;
-    append_suite_attributes(alloc, out, times, cases)
+    append_suite_attributes(out, times, cases)
 }
 
-// Appends the program's version.
 #[tactic(auto, unfolding(crate::specs::Junit::version_text))]
 fn append_version(out: &mut Vec<u8>, version: &str) -> Result<(), NoMemory>
     ensures { OnOk result (out.new.items ≡ out.old.items ++ spec.version_text version.now) }
@@ -149,7 +126,6 @@ fn append_version(out: &mut Vec<u8>, version: &str) -> Result<(), NoMemory>
     append_text(out, "/>\n</properties>\n")
 }
 
-// Appends a byte as XML has it.
 fn append_byte(out: &mut Vec<u8>, byte: u8) -> Result<(), NoMemory>
     ensures { OnOk result (out.new.items ≡ out.old.items ++ spec.escaped_byte byte) }
 {
@@ -165,7 +141,6 @@ fn append_byte(out: &mut Vec<u8>, byte: u8) -> Result<(), NoMemory>
     }
 }
 
-// Appends bytes as XML has them.
 fn append_escaped(out: &mut Vec<u8>, bytes: &[u8]) -> Result<(), NoMemory>
     ensures { OnOk result (out.new.items ≡ out.old.items ++ flat_map spec.escaped_byte bytes.now) }
 {
@@ -175,7 +150,6 @@ fn append_escaped(out: &mut Vec<u8>, bytes: &[u8]) -> Result<(), NoMemory>
     Ok(())
 }
 
-// What decided the verdict, as XML has it.
 fn escaped_decision(alloc: Global, names: &Names, cause: &Cause) -> Result<Vec<u8>, NoMemory>
     ensures { IfOk result (λ v. v.items ≡ flat_map spec.escaped_byte (decided_text names.now cause.now)) }
 {
@@ -186,17 +160,11 @@ fn escaped_decision(alloc: Global, names: &Names, cause: &Cause) -> Result<Vec<u
     Ok(escaped)
 }
 
-// Appends what decided the verdict, who waits for whom, and the calls of the run.
 #[tactic(auto, unfolding(crate::specs::Junit::cause_element))]
-fn append_cause_element(
-    alloc: Global,
-    out: &mut Vec<u8>,
-    case: &Summary,
-    cause: &Cause,
-) -> Result<(), NoMemory>
+fn append_cause_element(out: &mut Vec<u8>, case: &Summary, cause: &Cause) -> Result<(), NoMemory>
     ensures { OnOk result (out.new.items ≡ out.old.items ++ spec.cause_element case.now cause.now) }
 {
-    let decision = escaped_decision(alloc, &case.names, cause)?;
+    let decision = escaped_decision(*out.allocator(), &case.names, cause)?;
     out.extend_from_slice(decision.as_slice())?;
     append_text(out, "\">\n")?;
     out.extend_from_slice(decision.as_slice())?;
@@ -205,34 +173,21 @@ fn append_cause_element(
     append_named_entries(out, "  ", &case.names, cause.log.as_slice())
 }
 
-// Appends the name of a verdict that nothing decided.
-fn append_undecided(out: &mut Vec<u8>, verdict: Verdict) -> Result<(), NoMemory>
-    ensures { OnOk result (out.new.items ≡ out.old.items ++ (codes "verdict " ++ (spec_name verdict ++ codes "\">\n"))) }
-{
-    append_text(out, "verdict ")?;
-    append_text(out, name_of(verdict))?;
-    append_text(out, "\">\n")
-}
-
-// Appends what decided the verdict, or its name.
-fn append_why(
-    alloc: Global,
-    out: &mut Vec<u8>,
-    case: &Summary,
-    verdict: Verdict,
-) -> Result<(), NoMemory>
+fn append_why(out: &mut Vec<u8>, case: &Summary, verdict: Verdict) -> Result<(), NoMemory>
     ensures { OnOk result (out.new.items ≡ out.old.items ++ spec.why_element case.now verdict) }
 {
     match &case.cause {
-        Some(cause) => append_cause_element(alloc, out, case, cause),
-        None => append_undecided(out, verdict),
+        Some(cause) => append_cause_element(out, case, cause),
+        None => {
+            let text = format!(in *out.allocator(); "verdict {}\">\n", name_of(verdict))?;
+            append_text(out, text.as_str())
+        }
     }
 }
 
 // Appends the element of a verdict that is worse than pass, between its first text and its last tag.
 #[tactic(auto, unfolding(crate::specs::Junit::verdict_element))]
 fn append_verdict_element(
-    alloc: Global,
     out: &mut Vec<u8>,
     case: &Summary,
     first: &str,
@@ -242,18 +197,12 @@ fn append_verdict_element(
     ensures { OnOk result (out.new.items ≡ out.old.items ++ spec.verdict_element case.now first.now verdict last.now) }
 {
     append_text(out, first)?;
-    append_why(alloc, out, case, verdict)?;
+    append_why(out, case, verdict)?;
     append_text(out, last)
 }
 
-// Appends what is said of an overall verdict.
 #[tactic(auto, unfolding(crate::specs::Junit::end_element))]
-fn append_verdict_end(
-    alloc: Global,
-    out: &mut Vec<u8>,
-    case: &Summary,
-    verdict: Verdict,
-) -> Result<(), NoMemory>
+fn append_verdict_end(out: &mut Vec<u8>, case: &Summary, verdict: Verdict) -> Result<(), NoMemory>
     ensures { OnOk result (out.new.items ≡ out.old.items ++ spec.end_element case.now (CaseEnd.Over verdict)) }
 {
     match verdict {
@@ -261,26 +210,25 @@ fn append_verdict_end(
         Verdict::Pass => Ok(()),
         Verdict::Inconc => {
             let first = "<failure type=\"inconc\" message=\"";
-            append_verdict_element(alloc, out, case, first, verdict, "</failure>\n")
+            append_verdict_element(out, case, first, verdict, "</failure>\n")
         }
         Verdict::Fail => {
             let first = "<failure type=\"fail\" message=\"";
-            append_verdict_element(alloc, out, case, first, verdict, "</failure>\n")
+            append_verdict_element(out, case, first, verdict, "</failure>\n")
         }
         Verdict::Error => {
             let first = "<error type=\"error\" message=\"";
-            append_verdict_element(alloc, out, case, first, verdict, "</error>\n")
+            append_verdict_element(out, case, first, verdict, "</error>\n")
         }
     }
 }
 
-// Appends what is said of the end of a test case.
 #[tactic(auto, unfolding(crate::specs::Junit::end_element))]
-fn append_end_element(alloc: Global, out: &mut Vec<u8>, case: &Summary) -> Result<(), NoMemory>
+fn append_end_element(out: &mut Vec<u8>, case: &Summary) -> Result<(), NoMemory>
     ensures { OnOk result (out.new.items ≡ out.old.items ++ spec.end_element case.now case.now.ending) }
 {
     match case.ending {
-        CaseEnd::Over(verdict) => append_verdict_end(alloc, out, case, verdict),
+        CaseEnd::Over(verdict) => append_verdict_end(out, case, verdict),
         CaseEnd::Unfinished => append_text(
             out,
             "<error type=\"unfinished\" message=\"the test case is not over\"/>\n",
@@ -310,7 +258,6 @@ fn append_name_tag(out: &mut Vec<u8>, suite: &[u8], name: &Name) -> Result<(), N
 // Appends the components by their local verdicts, and the last tag of a test case.
 #[tactic(auto, unfolding(crate::specs::Junit::locals_element))]
 fn append_locals_element(
-    alloc: Global,
     out: &mut Vec<u8>,
     names: &[Option<Name>],
     locals: &[Verdict],
@@ -318,13 +265,11 @@ fn append_locals_element(
     ensures { OnOk result (out.new.items ≡ out.old.items ++ spec.locals_element names.now locals.now) }
 {
     append_text(out, "<system-out>\n")?;
-    append_locals(alloc, out, names, locals)?;
+    append_locals(out, names, locals)?;
     append_text(out, "</system-out>\n</testcase>\n")
 }
 
-// Appends a test case of the suite.
 fn append_element(
-    alloc: Global,
     out: &mut Vec<u8>,
     suite: &[u8],
     time: Option<(u64, u32)>,
@@ -333,26 +278,19 @@ fn append_element(
     ensures { OnOk result (out.new.items ≡ out.old.items ++ spec.case_element suite.now time case.now) }
 {
     append_name_tag(out, suite, &case.name)?;
-    append_time(alloc, out, " time=\"", time, "\"")?;
+    append_time(out, " time=\"", time, "\"")?;
     append_text(out, ">\n")?;
-    append_end_element(alloc, out, case)?;
-    let comps = case.names.comps.as_slice();
-    append_locals_element(alloc, out, comps, case.locals.as_slice())
+    append_end_element(out, case)?;
+    append_locals_element(out, case.names.comps.as_slice(), case.locals.as_slice())
 }
 
-// The time at this place, if it is known.
 fn time_at(times: &[Option<(u64, u32)>], place: usize) -> Option<(u64, u32)>
     ensures { result ≡ option_and_then (λ t. t) (slice_get times.now place) }
 {
-    match times.get(place) {
-        Some(time) => *time,
-        None => None,
-    }
+    *times.get(place)?
 }
 
-// Appends each test case of the suite, with its time.
 fn append_elements(
-    alloc: Global,
     out: &mut Vec<u8>,
     suite: &[u8],
     times: &[Option<(u64, u32)>],
@@ -361,14 +299,12 @@ fn append_elements(
     ensures { OnOk result (out.new.items ≡ out.old.items ++ spec.case_elements suite.now times.now cases.now) }
 {
     for (at, case) in cases.iter().enumerate() {
-        append_element(alloc, out, suite, time_at(times, at), case)?;
+        append_element(out, suite, time_at(times, at), case)?;
     }
     Ok(())
 }
 
-// Appends the report, whose suite has this name.
 fn append_suite(
-    alloc: Global,
     out: &mut Vec<u8>,
     version: &str,
     suite: &[u8],
@@ -377,9 +313,9 @@ fn append_suite(
 ) -> Result<(), NoMemory>
     ensures { OnOk result (out.new.items ≡ out.old.items ++ spec.junit_of version.now (Some suite.now) times.now cases.now) }
 {
-    append_head(alloc, out, suite, times, cases)?;
+    append_head(out, suite, times, cases)?;
     append_version(out, version)?;
-    append_elements(alloc, out, suite, times.cases.as_slice(), cases)?;
+    append_elements(out, suite, times.cases.as_slice(), cases)?;
     append_text(out, "</testsuite>\n</testsuites>\n")
 }
 
@@ -395,7 +331,7 @@ pub fn junit_report(
     ensures { IfOk result (λ v. v.items ≡ spec.junit_of version.now suite.now times.now cases.now) }
 {
     let mut out = Vec::new(alloc);
-    append_suite(alloc, &mut out, version, suite_name(suite), times, cases)?;
+    append_suite(&mut out, version, suite_name(suite), times, cases)?;
     Ok(out)
 }
 

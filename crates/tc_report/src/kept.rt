@@ -1,6 +1,5 @@
 //! The finished test cases of a campaign, kept.
-ghost use Rattle.std.specs.Prelude.{◌≡◌, ◌≤◌, [], IfOk};
-ghost use Rattle.std.specs.Vec.{vec_capacity};
+ghost use Rattle.std.specs.{Prelude.{◌≡◌, ◌≤◌, [], IfOk}, Vec.vec_capacity};
 ghost use Rattle.tc_report.specs.Observers.{Keeps};
 
 use crate::observer::Observer;

@@ -12,7 +12,6 @@ pub mod laws;
 mod live;
 mod live_form;
 mod meaning;
-mod names;
 mod naming;
 mod observer;
 mod output;
@@ -23,7 +22,6 @@ mod report;
 mod results;
 mod said;
 mod status;
-mod stopping;
 mod stopwatch;
 mod summary;
 mod summary_text;
@@ -38,10 +36,9 @@ pub use junit::{junit_report, write_junit};
 pub use kept::Kept;
 pub use live::LiveWriter;
 pub use live_form::LiveForm;
-pub use names::{names_in, no_names};
 pub use naming::{
     Names, Naming, append_component, append_component_in, append_named_call, append_run_in,
-    namings_of,
+    names_in, namings_of, no_names,
 };
 pub use observer::Observer;
 pub use progress::{Progress, Shown};
@@ -50,8 +47,7 @@ pub use replayed::{append_closing, append_replayed};
 pub use report::{append_verdict, write_text};
 pub use results::{CampaignEnd, CaseEnd, Finished, Results, Tally};
 pub use said::{Remark, Said};
-pub use status::{status_of, verdict_status, worst_status};
-pub use stopping::is_met;
+pub use status::{is_met, status_of, verdict_status, worst_status};
 pub use stopwatch::{Stopwatch, Timed, Times};
 pub use summary::{Summary, bare_summary, summaries_of_results, summary_of_case, summary_of_state};
 pub use summary_text::summary_report;

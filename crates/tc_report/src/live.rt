@@ -1,6 +1,5 @@
 //! The text of a campaign, written as its test cases finish.
-ghost use Rattle.std.specs.Prelude.{◌≡◌, [], None, OnOk, OnErr, IfOk, IfErr};
-ghost use Rattle.std.specs.Io.KnownBytes.{Appends};
+ghost use Rattle.std.specs.{Prelude.{◌≡◌, [], None, OnOk, OnErr, IfOk, IfErr}, Io.KnownBytes.Appends};
 ghost use Rattle.tc_verdict.specs.declared.verdict.Verdict.TheVariants.{None as NoVerdict};
 ghost use Rattle.tc_rules.specs.Prelude.{worse};
 ghost use Rattle.tc_report.specs.{Inside.IsOneMore, Live.Writes, Live.closing_text as spec_closing, Live.opening_text as spec_opening, Live.part_text as spec_part, Output.LeavesPrefix, Report.tally_of_cases, Status.ending_status as spec_status};
@@ -22,7 +21,6 @@ use tc_blocks::Kind;
 use tc_entry::{NoMemory, Verdict};
 use tc_verdict::worse_of;
 
-// What is before the test cases.
 fn opening_text(alloc: Global, form: LiveForm) -> Result<Vec<u8>, NoMemory>
     ensures { IfOk result (λ v. v.items ≡ spec_opening form) }
 {
@@ -32,7 +30,6 @@ fn opening_text(alloc: Global, form: LiveForm) -> Result<Vec<u8>, NoMemory>
     }
 }
 
-// What says one test case.
 fn part_text(alloc: Global, form: LiveForm, case: &Finished) -> Result<Vec<u8>, NoMemory>
     ensures { IfOk result (λ v. v.items ≡ spec_part form case.now) }
 {
@@ -46,7 +43,6 @@ fn part_text(alloc: Global, form: LiveForm, case: &Finished) -> Result<Vec<u8>, 
     Ok(text)
 }
 
-// What follows the test cases.
 fn closing_text(
     alloc: Global,
     form: LiveForm,

@@ -1,10 +1,9 @@
 //! What the dynamic error of a deciding call means.
-ghost use Rattle.std.specs.Prelude.{◌≡◌, ◌==◌, ◌&&◌, ◌++◌, OnOk, Some, None, codes, if◌then◌else◌, is_some, not, reverse};
+ghost use Rattle.std.specs.Prelude.{◌≡◌, ◌==◌, ◌&&◌, ◌++◌, OnOk, Some, None, if◌then◌else◌, is_some, not, reverse};
 ghost use Rattle.tc_rules.specs.Prelude.{comp_of};
-ghost use Rattle.tc_report.specs.InWords.{run_in};
 ghost use Rattle.tc_report.specs.Meaning as spec;
 
-use crate::naming::{Names, append_run_in};
+use crate::naming::{Names, append_around_run};
 use tc_entry::{Entry, Fault, NoMemory, Op, Reply, Run};
 use tc_rules::component_of;
 use tc_text::append_text;
@@ -13,11 +12,8 @@ use tc_text::append_text;
 fn known(history: &[Entry], run: Run) -> Option<Run>
     ensures { result ≡ (if not (run.0 == 0) && is_some (comp_of (reverse history.now) run.0) then Some run else None) }
 {
-    if run.0 != 0 && component_of(history, run).is_some() {
-        Some(run)
-    } else {
-        None
-    }
+    let is_known = run.0 != 0 && component_of(history, run).is_some();
+    if is_known { Some(run) } else { None }
 }
 
 /// The run that a Start is refused since this history started it.
@@ -30,7 +26,6 @@ pub(crate) fn started_before(history: &[Entry], entry: &Entry) -> Option<Run>
     }
 }
 
-// What a dynamic error means.
 fn fault_words(fault: Fault) -> &'static str
     ensures { result.now ≡ spec.fault_words fault }
 {
@@ -46,17 +41,6 @@ fn fault_words(fault: Fault) -> &'static str
     }
 }
 
-// Appends that this run was started before; if memory runs out, a part of it.
-fn append_again(out: &mut Vec<u8>, names: &Names, run: Run) -> Result<(), NoMemory>
-    ensures { OnOk result (out.new.items ≡ out.old.items ++ (codes ": run " ++ (run_in names.now run.0
-        ++ codes " was started before: a behaviour is started at most once"))) }
-{
-    let last = " was started before: a behaviour is started at most once";
-    append_text(out, ": run ")?;
-    append_run_in(out, names, run)?;
-    append_text(out, last)
-}
-
 /// Appends what a reply means, after a colon, if it is a dynamic error: that this run was started before, if there is one.
 /// If memory runs out, a part of it.
 pub(crate) fn append_meaning(
@@ -68,7 +52,10 @@ pub(crate) fn append_meaning(
     ensures { OnOk result (out.new.items ≡ out.old.items ++ spec.meaning_text names.now again reply) }
 {
     match (again, reply) {
-        (Some(run), _) => append_again(out, names, run),
+        (Some(run), _) => {
+            let last = " was started before: a behaviour is started at most once";
+            append_around_run(out, ": run ", names, run, last)
+        }
         (None, Reply::Fault(fault)) => append_text(out, fault_words(fault)),
         (None, _) => Ok(()),
     }

@@ -1,11 +1,13 @@
 //! How reports for people name components, runs and calls.
-ghost use Rattle.std.specs.Prelude.{◌≡◌, ◌++◌, ◌∷◌, [], IfOk, OnOk, codes, if◌then◌else◌, option_copied};
-ghost use Rattle.std.specs.{List.flat_map, Option.option_map_or};
-ghost use Rattle.tc_report.specs.Report.{shown_op};
+ghost use Rattle.std.specs.{Prelude.{◌≡◌, ◌++◌, [], IfOk, OnOk, codes, if◌then◌else◌, option_copied}, List.flat_map};
+ghost use Rattle.tc_rules.specs.Prelude.{name_in as spec_name};
+ghost use Rattle.tc_report.specs.{Inside.made_name, Report.shown_op};
 ghost use Rattle.tc_report.specs.InWords as spec;
+ghost use Rattle.tc_report.specs.Summary as summaries;
 
 use std::alloc::Global;
 use tc_entry::{Comp, Entry, Group, Name, NoMemory, Op, Reply, Run, Sequence, Target};
+use tc_rules::created;
 use tc_text::{append_number, append_text, write_op, write_reply};
 
 /// The name of the behaviour that a run has.
@@ -30,57 +32,37 @@ pub struct Names {
 pub fn namings_of(alloc: Global, names: &[Name]) -> Result<Vec<Naming>, NoMemory>
     ensures { IfOk result (λ v. v.items ≡ spec.namings_of names.now) }
 {
-    Ok(
-        names
-            .iter()
-            .enumerate()
-            .map(|(run, name)| Naming {
-                run,
-                name: name.copy(),
-            })
-            .collect(alloc)?,
-    )
+    let namings = names.iter().enumerate().map(|(run, name)| Naming {
+        run,
+        name: name.copy(),
+    });
+    Ok(namings.collect(alloc)?)
 }
 
-// The name at this place, if there is one.
 fn name_at(names: &[Option<Name>], place: usize) -> Option<&Name>
     ensures { option_copied result ≡ spec.name_at names.now place }
 {
-    match names.get(place) {
-        Some(name) => name.as_ref(),
-        None => None,
-    }
+    names.get(place)?.as_ref()
 }
 
 /// The name of the behaviour of a run, if it has one.
 pub(crate) fn behaviour_of(runs: &[Naming], run: usize) -> Option<&Name>
     ensures { option_copied result ≡ spec.behaviour_of runs.now run }
 {
-    match runs.iter().find(|naming| naming.run == run) {
-        Some(naming) => Some(&naming.name),
-        None => None,
-    }
+    Some(&runs.iter().find(|naming| naming.run == run)?.name)
 }
 
-// Appends a name after a space, if there is one; if memory runs out, a part of it.
-fn append_name(out: &mut Vec<u8>, name: Option<&Name>) -> Result<(), NoMemory>
-    ensures { OnOk result (out.new.items ≡ out.old.items ++ option_map_or (λ n. 32 ∷ n) (option_copied name.entry) []) }
+#[tactic(auto, unfolding(crate::specs::InWords::numbered))]
+fn append_numbered(out: &mut Vec<u8>, number: u64, name: Option<&Name>) -> Result<(), NoMemory>
+    ensures { OnOk result (out.new.items ≡ out.old.items ++ spec.numbered number (option_copied name.entry)) }
 {
+    append_number(out, number)?;
     let Some(name) = name else {
         return Ok(());
     };
     out.push(b' ')?;
     out.extend_from_slice(name.bytes())?;
     Ok(())
-}
-
-// Appends a number, and a name if there is one; if memory runs out, a part of it.
-#[tactic(auto, unfolding(crate::specs::InWords::numbered))]
-fn append_numbered(out: &mut Vec<u8>, number: u64, name: Option<&Name>) -> Result<(), NoMemory>
-    ensures { OnOk result (out.new.items ≡ out.old.items ++ spec.numbered number (option_copied name.entry)) }
-{
-    append_number(out, number)?;
-    append_name(out, name)
 }
 
 /// Appends a component: the main one as mtc, others by their number and name. If memory runs out, a part of it.
@@ -119,7 +101,21 @@ pub fn append_run_in(out: &mut Vec<u8>, names: &Names, run: Run) -> Result<(), N
     append_numbered(out, u64::from(run.0), name)
 }
 
-// What a Stop or a Kill is of, as a target.
+/// Appends a run between two texts. If memory runs out, a part of it.
+pub(crate) fn append_around_run(
+    out: &mut Vec<u8>,
+    before: &str,
+    names: &Names,
+    run: Run,
+    after: &str,
+) -> Result<(), NoMemory>
+    ensures { OnOk result (out.new.items ≡ out.old.items ++ (before.now ++ (spec.run_in names.now run.0 ++ after.now))) }
+{
+    append_text(out, before)?;
+    append_run_in(out, names, run)?;
+    append_text(out, after)
+}
+
 fn as_target(group: Group) -> Target
     ensures { result ≡ spec.as_target group }
 {
@@ -161,7 +157,6 @@ fn append_args_in(
     append_args_in(out, names, " ", rest)
 }
 
-// Appends a Start; if memory runs out, a part of it.
 fn append_start_in(
     out: &mut Vec<u8>,
     names: &Names,
@@ -192,7 +187,6 @@ fn append_about(
     append_target_in(out, names, target)
 }
 
-// The first words of a Wait.
 fn wait_words(killed: bool) -> &'static str
     ensures { result.now ≡ (if killed then codes "wait killed " else codes "wait done ") }
 {
@@ -266,4 +260,55 @@ pub(crate) fn append_named_entries(
         append_named_entry(out, front, names, entry)?;
     }
     Ok(())
+}
+
+fn name_in(op: &Op) -> Option<Name>
+    ensures { result ≡ spec_name op.now }
+{
+    match op {
+        Op::Create { name, .. } => name.as_ref().map(Name::copy),
+        _ => None,
+    }
+}
+
+fn add_made(names: &mut Vec<Option<Name>>, entry: &Entry) -> Result<(), NoMemory>
+    ensures { OnOk result (names.new.items ≡ names.old.items ++ made_name entry.now) }
+{
+    if created(&entry.op, entry.reply).is_some() {
+        names.push(name_in(&entry.op))?;
+    }
+    Ok(())
+}
+
+// The names of the components of this history, in one pass.
+fn comp_names(alloc: Global, history: &[Entry]) -> Result<Vec<Option<Name>>, NoMemory>
+    ensures { IfOk result (λ v. v.items ≡ (summaries.names_in history.now []).comps) }
+{
+    let mut names = Vec::new(alloc);
+    names.push(None)?;
+    for entry in history {
+        add_made(&mut names, entry)?;
+    }
+    Ok(names)
+}
+
+/// The names that the components of this history have, and these of its behaviours.
+pub fn names_in(alloc: Global, history: &[Entry], runs: Vec<Naming>) -> Result<Names, NoMemory>
+    ensures { IfOk result (λ names. names ≡ summaries.names_in history.now runs.items) }
+{
+    let comps = comp_names(alloc, history)?;
+    Ok(Names {
+        comps: Sequence::new(comps),
+        runs: Sequence::new(runs),
+    })
+}
+
+/// No names.
+pub fn no_names(alloc: Global) -> Names
+    ensures { result ≡ summaries.no_names }
+{
+    Names {
+        comps: Sequence::new(Vec::new(alloc)),
+        runs: Sequence::new(Vec::new(alloc)),
+    }
 }

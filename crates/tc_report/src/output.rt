@@ -1,6 +1,5 @@
 //! Writing a text that was made whole.
-ghost use Rattle.std.specs.Prelude.{◌++◌, OnOk, OnErr, IfErr};
-ghost use Rattle.std.specs.Io.KnownBytes.{Appends};
+ghost use Rattle.std.specs.{Prelude.{◌++◌, OnOk, OnErr, IfErr}, Io.KnownBytes.Appends};
 ghost use Rattle.tc_stream.specs.Prelude.{AppendsPrefix};
 ghost use Rattle.tc_report.specs.Output.{LeavesPrefix};
 

@@ -1,7 +1,5 @@
 //! What is printed about test cases as they begin and finish.
-ghost use Rattle.std.specs.Prelude.{ℕ, List, Option, ◌≡◌, ◌+◌, ◌++◌, ◌∷◌, [], true, None, IfOk, OnOk, OnErr, codes, drop};
-ghost use Rattle.std.specs.{Fmt.decimal, Io.KnownBytes.Appends, Option.option_map_or};
-ghost use Rattle.tc_rules.specs.Prelude.{name_of as spec_name};
+ghost use Rattle.std.specs.{Prelude.{ℕ, List, Option, ◌≡◌, ◌+◌, ◌++◌, ◌∷◌, [], true, None, IfOk, OnOk, OnErr, codes}, Fmt.decimal, Io.KnownBytes.Appends, Option.option_map_or};
 ghost use Rattle.tc_stream.specs.Prelude.{AppendsPrefix};
 ghost use Rattle.tc_report.specs.{Cause.decided_text, Inside.IsOneMore, Inside.OnlyPrints, Inside.again_by, Inside.line_by_place, Inside.rest_by, Observers.KeepsTimes, Progress.HasTold, Progress.IsToldBy, Progress.TellsProgress, Progress.again_lines, Progress.begun_text, Progress.case_place, Progress.finished_text, Progress.last_line, Progress.seconds_text, Progress.time_text, Progress.after_verdict, Progress.whole_time, declared.cause.Cause.Cause as AnyCause};
 
@@ -12,8 +10,7 @@ use crate::naming::Names;
 use crate::observer::Observer;
 use crate::output::print;
 use crate::results::{Finished, Tally};
-use crate::status::verdict_status;
-use crate::stopping::is_met;
+use crate::status::{is_met, verdict_status};
 use crate::stopwatch::Stopwatch;
 use crate::summary::summary_of_case;
 use std::alloc::Global;
@@ -27,9 +24,7 @@ use tc_verdict::name as name_of;
 fn append_place(out: &mut Vec<u8>, at: usize, names: &[Name]) -> Result<(), NoMemory>
     ensures { OnOk result (out.new.items ≡ out.old.items ++ case_place names.now at) }
 {
-    let Some(place) = at.checked_add(1) else {
-        return Err(NoMemory);
-    };
+    let place = at.checked_add(1).ok_or(NoMemory)?;
     append_number(out, place as u64)?;
     append_text(out, "/")?;
     append_number(out, names.len() as u64)
@@ -66,33 +61,21 @@ fn append_begun_line(out: &mut Vec<u8>, shown: Shown<'_>, at: usize) -> Result<(
     }
 }
 
-// Appends three digits, the thousandths.
-fn append_thousandths(alloc: Global, out: &mut Vec<u8>, count: u32) -> Result<(), NoMemory>
-    ensures { OnOk result (out.new.items ≡ out.old.items ++ drop 1 (decimal (1000 + count))) }
-{
-    let mut digits = Vec::new(alloc);
-    append_number(&mut digits, 1000 + u64::from(count))?;
-    match digits.as_slice().split_first() {
-        Some((_, rest)) => {
-            out.extend_from_slice(rest)?;
-            Ok(())
-        }
-        None => Ok(()),
-    }
-}
-
 // Appends a time: seconds, to a thousandth.
-fn append_seconds(alloc: Global, out: &mut Vec<u8>, time: (u64, u32)) -> Result<(), NoMemory>
+#[tactic(auto, using(std::proofs::lemmas::List::drop_min))]
+fn append_seconds(out: &mut Vec<u8>, time: (u64, u32)) -> Result<(), NoMemory>
     ensures { OnOk result (out.new.items ≡ out.old.items ++ seconds_text time) }
 {
+    let mut digits = Vec::new(*out.allocator());
+    append_number(&mut digits, 1000 + u64::from(time.1))?;
     append_number(out, time.0)?;
     append_text(out, ".")?;
-    append_thousandths(alloc, out, time.1)
+    out.extend_from_slice(&digits.as_slice()[1.min(digits.len())..])?;
+    Ok(())
 }
 
 /// Appends how long something took, between these texts, if a clock said it.
 pub(crate) fn append_time(
-    alloc: Global,
     out: &mut Vec<u8>,
     first: &str,
     time: Option<(u64, u32)>,
@@ -104,7 +87,7 @@ pub(crate) fn append_time(
         return Ok(());
     };
     append_text(out, first)?;
-    append_seconds(alloc, out, time)?;
+    append_seconds(out, time)?;
     append_text(out, last)
 }
 
@@ -136,20 +119,8 @@ fn why(alloc: Global, case: &Finished) -> Result<Vec<u8>, NoMemory>
     Ok(text)
 }
 
-// Appends the name and the verdict of the test case.
-fn append_told(out: &mut Vec<u8>, case: &Finished) -> Result<(), NoMemory>
-    ensures { OnOk result (out.new.items ≡ out.old.items
-        ++ (codes " " ++ (case.now.name ++ (codes " " ++ spec_name case.now.report.verdict)))) }
-{
-    append_text(out, " ")?;
-    out.extend_from_slice(case.name.bytes())?;
-    append_text(out, " ")?;
-    append_text(out, name_of(case.report.verdict))
-}
-
 // Appends the line of the test case, with this reason, after its front.
 fn append_line(
-    alloc: Global,
     out: &mut Vec<u8>,
     case: &Finished,
     time: Option<(u64, u32)>,
@@ -157,37 +128,32 @@ fn append_line(
 ) -> Result<(), NoMemory>
     ensures { OnOk result (out.new.items ≡ out.old.items ++ rest_by why.now time case.now) }
 {
-    append_told(out, case)?;
-    append_time(alloc, out, " ", time, " s")?;
+    append_text(out, " ")?;
+    out.extend_from_slice(case.name.bytes())?;
+    append_text(out, " ")?;
+    append_text(out, name_of(case.report.verdict))?;
+    append_time(out, " ", time, " s")?;
     out.extend_from_slice(why)?;
     append_text(out, "\n")
 }
 
 // Appends the line that names the test case again, if it has failed and not only failures are printed.
-fn append_failed(
-    alloc: Global,
-    out: &mut Vec<u8>,
-    case: &Finished,
-    only: bool,
-    why: &[u8],
-) -> Result<(), NoMemory>
+fn append_failed(out: &mut Vec<u8>, case: &Finished, only: bool, why: &[u8]) -> Result<(), NoMemory>
     ensures { OnOk result (out.new.items ≡ out.old.items ++ again_by only why.now case.now) }
 {
     if only || verdict_status(case.report.verdict) == 0 {
         return Ok(());
     }
     append_text(out, "failed:")?;
-    append_line(alloc, out, case, None, why)
+    append_line(out, case, None, why)
 }
 
 // Appends the sum. A number that the machine lacks is more than there is memory for.
 fn append_sum(out: &mut Vec<u8>, first: usize, second: usize) -> Result<(), NoMemory>
     ensures { OnOk result (out.new.items ≡ out.old.items ++ decimal (first + second)) }
 {
-    match first.checked_add(second) {
-        Some(sum) => append_number(out, sum as u64),
-        None => Err(NoMemory),
-    }
+    let sum = first.checked_add(second).ok_or(NoMemory)?;
+    append_number(out, sum as u64)
 }
 
 // Appends how long all took, if a clock said it: seconds, to a tenth.
@@ -197,11 +163,9 @@ fn append_whole_time(out: &mut Vec<u8>, time: Option<(u64, u32)>) -> Result<(), 
     let Some((seconds, thousandths)) = time else {
         return Ok(());
     };
-    append_text(out, ", ")?;
-    append_number(out, seconds)?;
-    append_text(out, ".")?;
-    append_number(out, u64::from(thousandths / 100))?;
-    append_text(out, " s")
+    let tenths = thousandths / 100;
+    let text = format!(in *out.allocator(); ", {seconds}.{tenths} s")?;
+    append_text(out, text.as_str())
 }
 
 // Appends the last line: how many have passed and how many have failed, and how long all took; nothing if there is none.
@@ -211,9 +175,7 @@ fn append_last(out: &mut Vec<u8>, tally: &Tally, time: Option<(u64, u32)>) -> Re
     if tally.cases == 0 {
         return Ok(());
     }
-    let Some(failed) = tally.inconc.checked_add(tally.fail) else {
-        return Err(NoMemory);
-    };
+    let failed = tally.inconc.checked_add(tally.fail).ok_or(NoMemory)?;
     append_sum(out, tally.none, tally.pass)?;
     append_text(out, " passed, ")?;
     append_sum(out, failed, tally.error)?;
@@ -354,7 +316,7 @@ impl<'a, 'c, O: Observer, E: Write, C: Clock> Progress<'a, 'c, O, E, C> {
         let mut line = Vec::new(self.alloc);
         if !self.shown.only || verdict_status(case.report.verdict) != 0 {
             append_place(&mut line, self.tally.cases, self.shown.names)?;
-            append_line(self.alloc, &mut line, case, time, why)?;
+            append_line(&mut line, case, time, why)?;
         }
         Ok(line)
     }
@@ -376,7 +338,7 @@ impl<'a, 'c, O: Observer, E: Write, C: Clock> Progress<'a, 'c, O, E, C> {
         ensures only { OnlyPrints self.old self.new }
     {
         let line = self.line(case, time, why)?;
-        append_failed(self.alloc, self.failed, case, self.shown.only, why)?;
+        append_failed(self.failed, case, self.shown.only, why)?;
         print(self.writer, line.as_slice())
     }
 

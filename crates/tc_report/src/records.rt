@@ -1,6 +1,5 @@
 //! The CSV report.
-ghost use Rattle.std.specs.Prelude.{◌≡◌, ◌++◌, ◌∷◌, [], OnOk, IfOk, IfErr, All, map};
-ghost use Rattle.std.specs.{Fmt.IsBoundedDecimal, Fmt.decimal, Io.KnownBytes.Appends, List.flat_map};
+ghost use Rattle.std.specs.{Prelude.{◌≡◌, ◌++◌, ◌∷◌, [], OnOk, IfOk, IfErr, All, map}, Fmt.IsBoundedDecimal, Fmt.decimal, Io.KnownBytes.Appends, List.flat_map};
 ghost use Rattle.csv.specs.Records.{fields_of, partial_of};
 ghost use Rattle.tc_rules.specs.Prelude.{IsName};
 ghost use Rattle.tc_report.specs.{Csv.columns_text, Csv.csv_of, Csv.end_word as spec_word, Csv.row_line, Inside.IsBetweenRecords, Inside.IsStarted, Inside.counts_of, Inside.written_by, Output.LeavesPrefix, Summary.case_summary};
@@ -16,7 +15,6 @@ use std::io::Write;
 use tc_entry::{NoMemory, Verdict};
 use tc_verdict::name as name_of;
 
-// Adds a field, the number.
 fn push_count(alloc: Global, row: &mut ByteRecord, count: usize) -> Result<(), NoMemory>
     requires { partial_of row.old ≡ [] }
     ensures fields { OnOk result (fields_of row.new ≡ fields_of row.old ++ decimal count ∷ []) }
@@ -41,7 +39,6 @@ pub(crate) fn end_word(ending: CaseEnd) -> &'static str
     }
 }
 
-// Adds how many local verdicts there are, and how many of each.
 fn push_counts(alloc: Global, row: &mut ByteRecord, locals: &[Verdict]) -> Result<(), NoMemory>
     requires { partial_of row.old ≡ [] }
     ensures fields { OnOk result (fields_of row.new ≡ fields_of row.old ++ map decimal (counts_of locals.now)) }
@@ -70,7 +67,6 @@ fn push_fields(alloc: Global, row: &mut ByteRecord, case: &Summary) -> Result<()
     Ok(())
 }
 
-// Adds the record of a test case.
 fn add_row(alloc: Global, writer: &mut Writer<Vec<u8>>, case: &Summary) -> Result<(), NoMemory>
     requires { IsBetweenRecords writer.old }
     ensures between { OnOk result (IsBetweenRecords writer.new) }
@@ -84,7 +80,6 @@ fn add_row(alloc: Global, writer: &mut Writer<Vec<u8>>, case: &Summary) -> Resul
     }
 }
 
-// A writer that has written nothing.
 fn fresh(alloc: Global) -> Writer<Vec<u8>>
     ensures between { IsBetweenRecords result }
     ensures empty { written_by result ≡ [] }
@@ -92,7 +87,6 @@ fn fresh(alloc: Global) -> Writer<Vec<u8>>
     WriterBuilder::new().from_writer(Vec::new(alloc))
 }
 
-// All that the writer has written.
 fn whole(writer: Writer<Vec<u8>>) -> Result<Vec<u8>, NoMemory>
     ensures { IfOk result (λ v. v.items ≡ written_by writer) }
 {
@@ -102,7 +96,6 @@ fn whole(writer: Writer<Vec<u8>>) -> Result<Vec<u8>, NoMemory>
     }
 }
 
-// A writer that has written the header.
 fn started(alloc: Global) -> Result<Writer<Vec<u8>>, NoMemory>
     ensures { IfOk result IsStarted }
 {
@@ -123,7 +116,6 @@ fn started(alloc: Global) -> Result<Writer<Vec<u8>>, NoMemory>
     }
 }
 
-// Adds the record of each test case.
 fn add_rows(alloc: Global, writer: &mut Writer<Vec<u8>>, cases: &[Summary]) -> Result<(), NoMemory>
     requires { IsBetweenRecords writer.old }
     ensures { OnOk result (written_by writer.new ≡ written_by writer.old ++ flat_map row_line cases.now) }
@@ -161,7 +153,6 @@ pub(crate) fn case_row(alloc: Global, case: &Finished) -> Result<Vec<u8>, NoMemo
     whole(writer)
 }
 
-// The CSV report of the results of a campaign.
 fn csv_of_results(alloc: Global, results: &Results) -> Result<Vec<u8>, NoMemory>
     ensures { IfOk result (λ v. v.items ≡ csv_of (map case_summary results.now.finished)) }
 {

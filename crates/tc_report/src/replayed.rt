@@ -1,7 +1,6 @@
 //! The text report of histories and evidence.
-ghost use Rattle.std.specs.Prelude.{◌≡◌, ◌++◌, [], OnOk, if◌then◌else◌, reverse};
-ghost use Rattle.std.specs.List.{flat_map};
-ghost use Rattle.tc_rules.specs.Prelude.{comp_of, is_by, log_if, logs_below, part};
+ghost use Rattle.std.specs.{Prelude.{◌≡◌, ◌++◌, OnOk, reverse}, List.flat_map};
+ghost use Rattle.tc_rules.specs.Prelude.{comp_of, log_if, logs_below, part};
 ghost use Rattle.tc_report.specs.{Inside.name_or_none, Replayed.replayed_text, Replayed.verdicts_closing, Report.run_text, Report.shown_entry};
 
 use crate::counts::count_of;
@@ -15,28 +14,17 @@ use crate::summary::Summary;
 use tc_entry::{Entry, NoMemory, Run, Verdict};
 use tc_rules::component_of;
 
-// Appends what is shown of the entry, if it is one of the run.
-fn append_if_by(out: &mut Vec<u8>, entry: &Entry, run: u16) -> Result<(), NoMemory>
-    ensures { OnOk result (out.new.items ≡ out.old.items ++ (if is_by run entry.now then shown_entry entry.now else [])) }
-{
-    if entry.caller.0 == run {
-        append_entry(out, entry)
-    } else {
-        Ok(())
-    }
-}
-
-// Appends what is shown of each entry of the run.
 fn append_part(out: &mut Vec<u8>, history: &[Entry], run: u16) -> Result<(), NoMemory>
     ensures { OnOk result (out.new.items ≡ out.old.items ++ flat_map shown_entry (part history.now run)) }
 {
     for entry in history {
-        append_if_by(out, entry, run)?;
+        if entry.caller.0 == run {
+            append_entry(out, entry)?;
+        }
     }
     Ok(())
 }
 
-// Appends the run and its part of the history, if the run was started.
 #[tactic(auto, using(crate::proofs::Replaying::run_started))]
 fn append_run(
     out: &mut Vec<u8>,
@@ -56,7 +44,6 @@ fn append_run(
     }
 }
 
-// Appends each of that many runs that was started, and its part of the history.
 fn append_runs(
     out: &mut Vec<u8>,
     names: &[Naming],

@@ -1,6 +1,5 @@
 //! The text report.
-ghost use Rattle.std.specs.Prelude.{◌≡◌, ◌++◌, ◌∷◌, OnOk, OnErr, IfErr, IfSome, [], codes, option_copied, slice_get, unwrap_or};
-ghost use Rattle.std.specs.{Fmt.decimal, Io.KnownBytes.Appends, Io.StartsWith, List.flat_map};
+ghost use Rattle.std.specs.{Prelude.{◌≡◌, ◌++◌, ◌∷◌, OnOk, OnErr, IfErr, IfSome, [], codes, option_copied, slice_get, unwrap_or}, Fmt.decimal, Io.KnownBytes.Appends, Io.StartsWith, List.flat_map};
 ghost use Rattle.tc_text.specs.Prelude.{op_text, reply_text};
 ghost use Rattle.tc_rules.specs.Prelude.{name_of as spec_name};
 ghost use Rattle.tc_report.specs.{Output.LeavesPrefix, Report.case_text, Report.local_lines, Report.report_text, Report.run_text, Report.shown_entry, Report.shown_op, Report.tally_line, Report.verdict_line};
@@ -22,13 +21,10 @@ pub(crate) fn append_op(out: &mut Vec<u8>, op: &Op) -> Result<(), NoMemory>
     ensures { OnOk result (out.new.items ≡ out.old.items ++ op_text (shown_op op.now)) }
 {
     match op {
-        Op::Wake { killed, target } => write_op(
-            out,
-            &Op::Wait {
-                killed: *killed,
-                target: *target,
-            },
-        ),
+        Op::Wake { killed, target } => {
+            let (killed, target) = (*killed, *target);
+            write_op(out, &Op::Wait { killed, target })
+        }
         _ => write_op(out, op),
     }
 }
@@ -97,7 +93,6 @@ pub(crate) fn append_entries(out: &mut Vec<u8>, entries: &[Entry]) -> Result<(),
     Ok(())
 }
 
-// Appends the name, if there is one.
 fn append_behaviour(out: &mut Vec<u8>, name: Option<&Name>) -> Result<(), NoMemory>
     ensures { OnOk result (out.new.items ≡ out.old.items ++ unwrap_or (option_copied name.entry) []) }
 {
@@ -130,7 +125,6 @@ pub(crate) fn append_run_line(
     Ok(())
 }
 
-// Appends the run of this log, and its entries.
 fn append_run(out: &mut Vec<u8>, names: &[Name], log: &RunLog) -> Result<(), NoMemory>
     ensures { OnOk result (out.new.items ≡ out.old.items ++ run_text (λ b. unwrap_or (slice_get names.now b) []) log.now) }
 {
@@ -138,7 +132,6 @@ fn append_run(out: &mut Vec<u8>, names: &[Name], log: &RunLog) -> Result<(), NoM
     append_entries(out, log.entries.as_slice())
 }
 
-// Appends each run that was started, and its log.
 fn append_runs(out: &mut Vec<u8>, names: &[Name], logs: &[RunLog]) -> Result<(), NoMemory>
     ensures { OnOk result (out.new.items ≡ out.old.items
         ++ flat_map (run_text (λ b. unwrap_or (slice_get names.now b) [])) logs.now) }
@@ -149,7 +142,6 @@ fn append_runs(out: &mut Vec<u8>, names: &[Name], logs: &[RunLog]) -> Result<(),
     Ok(())
 }
 
-// Appends the line of a component's local verdict.
 fn append_local(out: &mut Vec<u8>, comp: usize, verdict: Verdict) -> Result<(), NoMemory>
     ensures { OnOk result (out.new.items ≡ out.old.items
         ++ (codes "local " ++ (decimal comp ++ (codes " " ++ (spec_name verdict ++ 10 ∷ []))))) }
@@ -204,7 +196,6 @@ pub(crate) fn append_case(out: &mut Vec<u8>, case: &Finished) -> Result<(), NoMe
     append_verdict(out, report.verdict)
 }
 
-// Appends each finished test case.
 fn append_cases(out: &mut Vec<u8>, cases: &[Finished]) -> Result<(), NoMemory>
     ensures { OnOk result (out.new.items ≡ out.old.items ++ flat_map case_text cases.now) }
 {

@@ -1,9 +1,7 @@
 //! What a block says next to its entries: the names of behaviours, and remarks.
-ghost use Rattle.std.specs.Prelude.{◌≡◌, ◌<◌, ◌≤◌, ◌+◌, ◌==◌, ◌&&◌, ◌++◌, [], IfOk, OnOk, length, nat_le, nat_lt, option_copied, reverse, take};
-ghost use Rattle.std.specs.{List.find, Option.option_map_or};
+ghost use Rattle.std.specs.{Prelude.{◌≡◌, ◌<◌, ◌≤◌, ◌+◌, ◌==◌, ◌&&◌, ◌++◌, [], IfOk, OnOk, length, nat_le, nat_lt, option_copied, reverse, take}, List.find, Option.option_map_or};
 ghost use Rattle.tc_rules.specs.Prelude.{part};
-ghost use Rattle.tc_report.specs.Inside.{said_with};
-ghost use Rattle.tc_report.specs.declared.said.Remark.{Remark as AnyRemark};
+ghost use Rattle.tc_report.specs.{Inside.said_with, declared.said.Remark.{Remark as AnyRemark}};
 ghost use Rattle.tc_report.specs.Said as spec;
 
 use crate::cause::count_by;
@@ -62,19 +60,16 @@ impl Said {
 fn last_to(remarks: &[Remark], run: Run, at: usize) -> Option<&Remark>
     ensures { option_copied result ≡ find (λ r. (r.run.0 == run.0) && nat_le r.at at) (reverse remarks.now) }
 {
-    remarks
-        .iter()
-        .rev()
-        .find(|remark| remark.run.0 == run.0 && remark.at <= at)
+    let mut newest = remarks.iter().rev();
+    newest.find(|remark| remark.run.0 == run.0 && remark.at <= at)
 }
 
 // Its first remark after this place.
 fn first_after(remarks: &[Remark], run: Run, at: usize) -> Option<&Remark>
     ensures { option_copied result ≡ find (λ r. (r.run.0 == run.0) && nat_lt at r.at) remarks.now }
 {
-    remarks
-        .iter()
-        .find(|remark| remark.run.0 == run.0 && at < remark.at)
+    let mut oldest = remarks.iter();
+    oldest.find(|remark| remark.run.0 == run.0 && at < remark.at)
 }
 
 // How many of the first entries of the history are of the run.
@@ -85,7 +80,6 @@ fn made_to(history: &[Entry], run: Run, place: usize) -> usize
     count_by(&history[..place.min(history.len())], run)
 }
 
-// A copy of the sentence.
 fn copy(alloc: Global, sentence: &Sentence) -> Result<Sentence, NoMemory>
     ensures { IfOk result (λ s. s ≡ sentence.now) }
 {
@@ -95,25 +89,8 @@ fn copy(alloc: Global, sentence: &Sentence) -> Result<Sentence, NoMemory>
     }
 }
 
-// Adds what the remark says, if its run makes no entry between it and this place.
-fn add_if_next_to(
-    alloc: Global,
-    said: &mut Vec<Sentence>,
-    history: &[Entry],
-    place: usize,
-    remark: &Remark,
-) -> Result<(), NoMemory>
-    ensures { OnOk result (said.new.items ≡ said.old.items ++ spec.if_next_to history.now place remark.now) }
-{
-    if made_to(history, remark.run, remark.at) == made_to(history, remark.run, place) {
-        said.push(copy(alloc, &remark.sentence)?)?;
-    }
-    Ok(())
-}
-
-// The same, if there is a remark.
+// Adds what the remark says, if there is one and its run makes no entry between it and this place.
 fn add_said(
-    alloc: Global,
     said: &mut Vec<Sentence>,
     history: &[Entry],
     place: usize,
@@ -122,10 +99,14 @@ fn add_said(
     ensures { OnOk result (said.new.items ≡ said.old.items
         ++ option_map_or (spec.if_next_to history.now place) (option_copied remark.entry) []) }
 {
-    match remark {
-        Some(remark) => add_if_next_to(alloc, said, history, place, remark),
-        None => Ok(()),
+    let Some(remark) = remark else {
+        return Ok(());
+    };
+    if made_to(history, remark.run, remark.at) == made_to(history, remark.run, place) {
+        let sentence = copy(*said.allocator(), &remark.sentence)?;
+        said.push(sentence)?;
     }
+    Ok(())
 }
 
 /// What the run said right before and right after its entry at this place.
@@ -140,13 +121,8 @@ pub(crate) fn reasons(
     ensures { IfOk result (λ v. v.items ≡ spec.reasons remarks.now history.now at run.0) }
 {
     let mut said = Vec::new(alloc);
-    add_said(alloc, &mut said, history, at, last_to(remarks, run, at))?;
-    add_said(
-        alloc,
-        &mut said,
-        history,
-        at + 1,
-        first_after(remarks, run, at),
-    )?;
+    let (before, after) = (last_to(remarks, run, at), first_after(remarks, run, at));
+    add_said(&mut said, history, at, before)?;
+    add_said(&mut said, history, at + 1, after)?;
     Ok(said)
 }

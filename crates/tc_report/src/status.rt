@@ -1,6 +1,6 @@
-//! The exit status.
-ghost use Rattle.std.specs.Prelude.{◌≡◌, map};
-ghost use Rattle.tc_report.specs.{Status.counted_as as spec_counted, Status.ending_status as spec_ending, Status.results_status, Status.verdict_status as spec_status, Status.worst_of as spec_worst, Summary.case_summary};
+//! The exit status, and the stopping rule.
+ghost use Rattle.std.specs.Prelude.{◌≡◌, IsTrue, false, map};
+ghost use Rattle.tc_report.specs.{Observers.IsMet, Status.counted_as as spec_counted, Status.ending_status as spec_ending, Status.results_status, Status.verdict_status as spec_status, Status.worst_of as spec_worst, Summary.case_summary};
 
 use crate::results::{CampaignEnd, CaseEnd, Finished, Results};
 use crate::summary::Summary;
@@ -19,7 +19,6 @@ pub(crate) fn counted_as(ending: CaseEnd) -> Verdict
     }
 }
 
-// The worst of the overall verdicts, none if no test case finished.
 fn worst_overall(cases: &[Finished]) -> Verdict
     ensures { result ≡ spec_worst (map case_summary cases.now) }
 {
@@ -76,4 +75,15 @@ pub fn worst_status(cases: &[Summary]) -> u8
     ensures { result ≡ spec_status (spec_worst cases.now) }
 {
     verdict_status(worst_of(cases))
+}
+
+/// Whether a test case with this verdict is the last of its campaign.
+pub fn is_met(stop_on: Option<Verdict>, verdict: Verdict) -> bool
+    ensures met { IsTrue result → IsMet stop_on verdict }
+    ensures better { result ≡ false → IsMet stop_on verdict → ⊥ }
+{
+    match stop_on {
+        Some(worst) => worse_of(worst, verdict) == verdict,
+        None => false,
+    }
 }

@@ -1,8 +1,7 @@
 //! How long a run and its test cases take.
-ghost use Rattle.std.specs.Prelude.{◌≡◌, ◌≤◌, ◌<◌, ◌++◌, ◌∷◌, [], true, false, None, IfOk, IfErr, IfSome};
-ghost use Rattle.std.specs.{Option.option_or, Vec.vec_capacity, Vec.vec_len};
-ghost use Rattle.tc_report.specs.Junit as spec;
+ghost use Rattle.std.specs.{Prelude.{◌≡◌, ◌≤◌, ◌<◌, ◌++◌, ◌∷◌, [], true, false, None, IfOk, IfErr, IfSome}, Option.option_or, Vec.vec_capacity, Vec.vec_len};
 ghost use Rattle.tc_report.specs.Observers.{KeepsTimes};
+ghost use Rattle.tc_report.specs.Junit as spec;
 
 use crate::observer::Observer;
 use crate::results::Finished;

@@ -1,13 +1,12 @@
 //! What reports say of a test case.
-ghost use Rattle.std.specs.Prelude.{◌≡◌, ◌++◌, IfOk, OnOk, List, drop, if◌then◌else◌, map, reverse};
+ghost use Rattle.std.specs.Prelude.{◌≡◌, ◌++◌, IfOk, OnOk, List, if◌then◌else◌, map, reverse};
 ghost use Rattle.tc_rules.specs.Prelude.{Entry as AnyEntry, StandsFor, is_over, overall};
 ghost use Rattle.tc_blocks.specs.declared.header.Kind.{Kind};
 ghost use Rattle.tc_report.specs.{Summary.aborted_summary, Summary.bare_summary as spec_bare, Summary.case_summary, Summary.results_summaries, Summary.said_of as spec_said, Summary.summary_of, Summary.summary_with as spec_with, Summary.waits_if, Summary.with_waits as spec_waits, declared.results.CaseEnd.TheVariants.NotRun};
 
 use crate::blocks::first_names;
 use crate::cause::{Cause, cause_of};
-use crate::names::{names_in, no_names};
-use crate::naming::{Names, Naming, namings_of};
+use crate::naming::{Names, Naming, names_in, namings_of, no_names};
 use crate::results::{CampaignEnd, CaseEnd, Finished, Results};
 use crate::said::Said;
 use crate::waits::append_waits;
@@ -57,18 +56,14 @@ fn end_of_state(state: &CaseState) -> CaseEnd
     }
 }
 
-// The same names.
 fn copied(alloc: Global, namings: &[Naming]) -> Result<Vec<Naming>, NoMemory>
     ensures { IfOk result (λ v. v.items ≡ namings.now) }
 {
-    let mut copy = Vec::new(alloc);
-    for naming in namings {
-        copy.push(Naming {
-            run: naming.run,
-            name: naming.name.copy(),
-        })?;
-    }
-    Ok(copy)
+    let copies = namings.iter().map(|naming| Naming {
+        run: naming.run,
+        name: naming.name.copy(),
+    });
+    Ok(copies.collect(alloc)?)
 }
 
 // The summary of the test case of this name, with these local verdicts, this end and this history, next to which this is
@@ -112,7 +107,6 @@ fn waits_in(
     Ok(waits)
 }
 
-// The summary with these lines.
 fn with_waits(
     alloc: Global,
     summary: Summary,
@@ -177,30 +171,12 @@ pub fn summary_of_case(alloc: Global, case: &Finished) -> Result<Summary, NoMemo
     with_waits(alloc, summary, case.report.behaviours, history)
 }
 
-// Adds the summary of the test case that has no report, if there is one.
-fn add_aborted(
-    alloc: Global,
-    summaries: &mut Vec<Summary>,
-    ending: &CampaignEnd,
-) -> Result<(), NoMemory>
+fn add_aborted(summaries: &mut Vec<Summary>, ending: &CampaignEnd) -> Result<(), NoMemory>
     ensures { OnOk result (summaries.new.items ≡ summaries.old.items ++ aborted_summary ending.now) }
 {
     if let CampaignEnd::Aborted { name, why } = ending {
-        summaries.push(bare_summary(alloc, CaseEnd::Aborted(*why), name))?;
-    }
-    Ok(())
-}
-
-// Adds the summary of each of these test cases.
-fn add_finished(
-    alloc: Global,
-    summaries: &mut Vec<Summary>,
-    cases: &[Finished],
-) -> Result<(), NoMemory>
-    ensures { OnOk result (summaries.new.items ≡ summaries.old.items ++ map case_summary cases.now) }
-{
-    for case in cases {
-        summaries.push(summary_of_case(alloc, case)?)?;
+        let summary = bare_summary(*summaries.allocator(), CaseEnd::Aborted(*why), name);
+        summaries.push(summary)?;
     }
     Ok(())
 }
@@ -213,19 +189,12 @@ pub(crate) fn summaries_of_cases(
     ensures { IfOk result (λ v. v.items ≡ map case_summary cases.now) }
 {
     let mut summaries = Vec::new(alloc);
-    add_finished(alloc, &mut summaries, cases)?;
+    for case in cases {
+        summaries.push(summary_of_case(alloc, case)?)?;
+    }
     Ok(summaries)
 }
 
-// The names after that many.
-#[tactic(auto, using(std::proofs::lemmas::List::drop_min))]
-fn names_after(names: &[Name], count: usize) -> &[Name]
-    ensures { result.now ≡ drop count names.now }
-{
-    &names[count.min(names.len())..]
-}
-
-// Adds the summary of each test case of these names, none of which was run.
 fn add_unrun(alloc: Global, summaries: &mut Vec<Summary>, names: &[Name]) -> Result<(), NoMemory>
     ensures { OnOk result (summaries.new.items ≡ summaries.old.items ++ map (spec_bare NotRun) names.now) }
 {
@@ -237,6 +206,7 @@ fn add_unrun(alloc: Global, summaries: &mut Vec<Summary>, names: &[Name]) -> Res
 
 /// The summaries of the results of a campaign of test cases with these names: of each finished test case, of the one that
 /// has no report, and of those after them, which were not run. Without the names they are left out.
+#[tactic(auto, using(std::proofs::lemmas::List::drop_min))]
 pub fn summaries_of_results(
     alloc: Global,
     names: &[Name],
@@ -245,8 +215,8 @@ pub fn summaries_of_results(
     ensures { IfOk result (λ v. v.items ≡ results_summaries names.now results.now) }
 {
     let mut summaries = summaries_of_cases(alloc, results.finished.as_slice())?;
-    add_aborted(alloc, &mut summaries, &results.ending)?;
-    let unrun = names_after(names, summaries.len());
+    add_aborted(&mut summaries, &results.ending)?;
+    let unrun = &names[summaries.len().min(names.len())..];
     add_unrun(alloc, &mut summaries, unrun)?;
     Ok(summaries)
 }

@@ -1,18 +1,18 @@
 //! Which runs wait as no run can continue, and for whom.
-ghost use Rattle.std.specs.Prelude.{◌≡◌, ◌≤◌, ◌++◌, [], IfOk, List, OnOk, codes, if◌then◌else◌, reverse};
-ghost use Rattle.std.specs.Option.{option_map_or};
+ghost use Rattle.std.specs.{Prelude.{◌≡◌, ◌≤◌, ◌++◌, [], IfOk, List, OnOk, if◌then◌else◌, reverse}, Option.option_map_or};
 ghost use Rattle.tc_entry.specs.declared.limits.TheConstants.{BEHAVIOURS as MOST_BEHAVIOURS};
 ghost use Rattle.tc_rules.specs.Prelude.{Entry as AnyEntry, StandsFor, comp_of, is_active, waiting};
-ghost use Rattle.tc_report.specs.{InWords.component_in, InWords.run_in, Inside.IsBeforeStuck};
+ghost use Rattle.tc_report.specs.Inside.{IsBeforeStuck};
 ghost use Rattle.tc_report.specs.Waits as spec;
 
-use crate::naming::{Names, append_component_in, append_run_in, append_target_in};
+use crate::naming::{
+    Names, append_around_run, append_component_in, append_run_in, append_target_in,
+};
 use std::alloc::Global;
 use tc_entry::{BEHAVIOURS, Comp, Entry, Fault, NoMemory, Phase, Reply, Run, Target};
 use tc_rules::{Awaited, CaseState};
 use tc_text::append_text;
 
-// Whether the reply says that no run can continue.
 fn says_stuck(reply: Reply) -> bool
     ensures { result ≡ spec.says_stuck reply }
 {
@@ -40,17 +40,6 @@ fn state_before_stuck(
     Ok(None)
 }
 
-// Appends that a component runs this run; if memory runs out, a part of it.
-fn append_running(out: &mut Vec<u8>, names: &Names, run: Run) -> Result<(), NoMemory>
-    ensures { OnOk result (out.new.items ≡ out.old.items
-        ++ (codes ", where run " ++ (run_in names.now run.0 ++ codes " is"))) }
-{
-    append_text(out, ", where run ")?;
-    append_run_in(out, names, run)?;
-    append_text(out, " is")
-}
-
-// Appends what a component is doing that is waited for; if memory runs out, a part of it.
 fn append_phase(out: &mut Vec<u8>, names: &Names, phase: Option<Phase>) -> Result<(), NoMemory>
     ensures { OnOk result (out.new.items ≡ out.old.items ++ spec.phase_words names.now phase) }
 {
@@ -59,11 +48,10 @@ fn append_phase(out: &mut Vec<u8>, names: &Names, phase: Option<Phase>) -> Resul
         Some(Phase::Inactive) => append_text(out, ", not started"),
         Some(Phase::Stopped) => append_text(out, ", stopped"),
         Some(Phase::Killed) => append_text(out, ", killed"),
-        Some(Phase::Running(run)) => append_running(out, names, run),
+        Some(Phase::Running(run)) => append_around_run(out, ", where run ", names, run, " is"),
     }
 }
 
-// What a component is doing in a state, if one is waited for.
 fn phase_of(state: &CaseState, target: Target) -> Option<Phase>
     ensures { (past : List AnyEntry) → StandsFor state.now past → result ≡ spec.awaited_phase past target }
 {
@@ -73,7 +61,6 @@ fn phase_of(state: &CaseState, target: Target) -> Option<Phase>
     }
 }
 
-// Appends what is waited for, in this phase, and the end of the line; if memory runs out, a part of it.
 #[tactic(auto, unfolding(crate::specs::Waits::awaited_words))]
 fn append_awaited(
     out: &mut Vec<u8>,
@@ -94,17 +81,6 @@ fn append_awaited(
     append_text(out, "\n")
 }
 
-// Appends which run waits, and on which component; if memory runs out, a part of it.
-fn append_who(out: &mut Vec<u8>, names: &Names, run: Run, comp: Comp) -> Result<(), NoMemory>
-    ensures { OnOk result (out.new.items ≡ out.old.items ++ (codes "  stuck: run "
-        ++ (run_in names.now run.0 ++ (codes " on " ++ component_in names.now comp.0)))) }
-{
-    append_text(out, "  stuck: run ")?;
-    append_run_in(out, names, run)?;
-    append_text(out, " on ")?;
-    append_component_in(out, names, comp)
-}
-
 // Appends the line of a run, if it is active and waits; if memory runs out, a part of it.
 fn append_wait_of(
     out: &mut Vec<u8>,
@@ -122,11 +98,13 @@ fn append_wait_of(
     let Some(awaited) = state.parked(run) else {
         return Ok(());
     };
-    append_who(out, names, run, comp)?;
+    append_text(out, "  stuck: run ")?;
+    append_run_in(out, names, run)?;
+    append_text(out, " on ")?;
+    append_component_in(out, names, comp)?;
     append_awaited(out, names, awaited, phase_of(state, awaited.target))
 }
 
-// The lines of all runs that are active and wait.
 #[tactic(auto, using(crate::proofs::Waiting::next_of))]
 fn waits_after(
     alloc: Global,

@@ -318,7 +318,3 @@ said_more ls (Line.Remark run said) =
     ap₂ said_mk (named_last ls (Line.Remark run said) ∙ append-nil (flat_map named_in ls))
     (remarks_more 0 ls (Line.Remark run said) ∙ ap (λ k. remarks_from 0 ls ++ remarks_from k (Line.Remark run said ∷ [])) same)
 said_more ls (Line.Refused run said) = silent_more ls (Line.Refused run said) refl refl
-
--- an entry adds nothing to it
-pub entry_said : {said : Said} (ls : List Line) (e : Entry) → said ≡ said_in ls → said ≡ said_in (ls ++ Line.Entry e ∷ [])
-entry_said ls e is = is ∙ sym (said_more ls (Line.Entry e))

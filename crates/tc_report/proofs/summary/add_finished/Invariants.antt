@@ -1,6 +1,0 @@
-use Rattle.std.proofs.Common.{◌≡◌, ◌++◌, map, take}
-use Rattle.tc_report.specs.Summary.{case_summary}
-use Rattle.tc_report.proofs.summary.add_finished.Given as goal
-
-abbrev pub invariant-loop-case : goal.invariant-loop-case
-invariant-loop-case l = l.summaries.items ≡ l.fn.summaries.items ++ map case_summary (take l.case-index l.cases)
