@@ -1,7 +1,7 @@
 //! The local verdicts of a witness.
-ghost use Rattle.std.specs.{Prelude.{◌≡◌, ◌==◌, ◌≤◌, ◌++◌, [], ◌∷◌, IfOk, OnOk, flat_map, reverse}, List.range_with_len, Option.option_map_or};
+ghost use Rattle.std.specs.{Prelude.{◌≡◌, ◌==◌, ◌≤◌, ◌++◌, IfOk, OnOk, flat_map, reverse}, List.range_with_len};
 ghost use Rattle.tc_entry.specs.declared.limits.TheConstants.{BEHAVIOURS};
-ghost use Rattle.tc_rules.specs.Prelude.{components, IsLegal, StandsFor, name_of as verdict_name};
+ghost use Rattle.tc_rules.specs.Prelude.{components, IsLegal, StandsFor};
 ghost use Rattle.tc_explored.specs.Details.{local_words, locals as about_locals};
 
 use std::alloc::Global;

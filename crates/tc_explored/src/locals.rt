@@ -1,5 +1,5 @@
 //! What is printed of the local verdicts that the components of a test case may have.
-ghost use Rattle.std.specs.{Prelude.{◌≡◌, ◌≤◌, ◌+◌, ◌*◌, ◌/◌, ◌++◌, [], IfOk, None, OnOk, codes, drop, length, option_copied, slice_index_or}, Fmt.decimal, List.flat_map, List.range_with_len};
+ghost use Rattle.std.specs.{Prelude.{◌≡◌, ◌≤◌, ◌+◌, ◌*◌, ◌/◌, ◌++◌, [], IfOk, None, OnOk, codes, length, option_copied, slice_index_or}, Fmt.decimal, List.flat_map, List.range_with_len};
 ghost use Rattle.tc_course.specs.Prelude.{is_local};
 ghost use Rattle.tc_text.specs.Prelude.{shown_line};
 ghost use Rattle.tc_explored.specs.{Line.if_complete, Line.verdicts_where};

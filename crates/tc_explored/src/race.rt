@@ -1,7 +1,6 @@
 //! Two witnesses from where they part: side by side, or run by run.
-ghost use Rattle.std.specs.Prelude.{◌≡◌, ◌≤◌, ◌++◌, ◌∷◌, IfOk, OnOk, codes, drop, length};
+ghost use Rattle.std.specs.Prelude.{◌≡◌, ◌≤◌, ◌++◌, IfOk, OnOk, codes, drop, length};
 ghost use Rattle.tc_blocks.specs.Prelude.{entry_text};
-ghost use Rattle.tc_rules.specs.Prelude.{name_of as verdict_name};
 ghost use Rattle.tc_explored.specs.Race as spec;
 
 use crate::parting::append_partings;
