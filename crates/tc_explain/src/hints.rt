@@ -156,9 +156,8 @@ fn add_numbers(help: &mut Help, slots: &[Slot]) -> Result<bool> {
 // How many of the words, which are at these slots, are at this one, and no arrow.
 fn count_at(wanted: Slot, slots: &[Slot], words: &[&[u8]]) -> usize {
     let pairs = slots.iter().zip(words.iter());
-    pairs
-        .filter(|(slot, word)| **slot == wanted && !is_word(word, b"->"))
-        .count()
+    let found = pairs.filter(|(slot, word)| **slot == wanted && !is_word(word, b"->"));
+    found.count()
 }
 
 // Adds what helps with a line of moves or histories, the first word of which is at this slot.

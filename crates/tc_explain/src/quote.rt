@@ -16,15 +16,6 @@ fn append_hex(out: &mut Vec<u8>, byte: u8) -> Result<()> {
     append_text(out, format!(in alloc; "\\x{byte:02X}")?.as_str())
 }
 
-// Appends what is shown of a byte.
-fn append_byte(out: &mut Vec<u8>, byte: u8) -> Result<()> {
-    if !is_plain(byte) {
-        return append_hex(out, byte);
-    }
-    out.push(byte)?;
-    Ok(())
-}
-
 // What of a line or a word is shown: of a long one the first bytes.
 #[tactic(auto, using(std::proofs::lemmas::List::take_min))]
 fn shown(bytes: &[u8]) -> &[u8]
@@ -67,7 +58,11 @@ pub(crate) fn quoted_rest(alloc: Global, bytes: &[u8]) -> Result<Vec<u8>> {
     let mut out = Vec::new(alloc);
     let begin = shown(bytes);
     for byte in begin.iter().skip(plain_begin(begin).len()) {
-        append_byte(&mut out, *byte)?;
+        if is_plain(*byte) {
+            out.push(*byte)?;
+        } else {
+            append_hex(&mut out, *byte)?;
+        }
     }
     append_text(&mut out, if bytes.len() <= SHOWN { "`" } else { "`.." })?;
     Ok(out)
