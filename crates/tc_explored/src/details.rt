@@ -35,7 +35,6 @@ fn append_decided_line(
     append_shown(alloc, out, text.as_slice())
 }
 
-// Appends what decided the verdict of a witness, if it is worse than pass; if memory runs out, a part of it.
 #[tactic(auto, unfolding(crate::specs::Details::decided))]
 fn append_decided(out: &mut Vec<u8>, names: &Names, witness: &Witness) -> Result<(), NoMemory>
     ensures { OnOk result (out.new.items ≡ out.old.items ++ spec.decided names.now witness.now) }
@@ -47,7 +46,6 @@ fn append_decided(out: &mut Vec<u8>, names: &Names, witness: &Witness) -> Result
     }
 }
 
-// Appends the lines of a witness with these names; if memory runs out, a part of them.
 fn append_lines(
     out: &mut Vec<u8>,
     names: &Names,
@@ -66,7 +64,6 @@ fn append_lines(
     append_waits(*out.allocator(), out, names, behaviours, history)
 }
 
-// Appends the lines of a witness with these names of behaviours; if memory runs out, a part of them.
 fn append_witness(
     out: &mut Vec<u8>,
     names: &[Name],

@@ -13,7 +13,6 @@ use tc_report::append_component;
 use tc_text::{append_number, append_shown, append_text};
 use tc_verdict::{NoMemory, Verdict};
 
-// Which verdicts a component is found with.
 #[tactic(auto, unfolding(crate::specs::Line::verdicts_where))]
 fn verdicts_of(alloc: Global, locals: &Locals, comp: usize) -> Result<Vec<Verdict>, NoMemory>
     requires { comp * 5 ≤ length locals.now.found }
@@ -44,7 +43,6 @@ fn name_at(locals: &Locals, comp: usize) -> Option<&Name>
     locals.names.as_slice().get(comp)?.as_ref()
 }
 
-// Appends verdicts, with `or` between them; if memory runs out, a part of them.
 #[tactic(auto, using(std::proofs::lemmas::List::drop_min))]
 fn append_or(out: &mut Vec<u8>, verdicts: &[Verdict]) -> Result<(), NoMemory>
     ensures { OnOk result (out.new.items ≡ out.old.items ++ spec.or_text verdicts.now) }

@@ -123,7 +123,6 @@ fn append_before(out: &mut Vec<u8>, words: &str, end: Option<&Entry>) -> Result<
     append_entry(out, entry)
 }
 
-// Appends which call of which run it is.
 #[tactic(auto, unfolding(crate::specs::Race::which_call))]
 fn append_which(out: &mut Vec<u8>, names: &Names, run: u16, call: usize) -> Result<(), NoMemory>
     ensures { OnOk result (out.new.items ≡ out.old.items ++ spec.which_call names.now run call) }
@@ -151,7 +150,6 @@ fn append_sides(
     append_side(out, right, &difference.right)
 }
 
-// Appends it by these names of behaviours.
 fn append_named_sides(
     out: &mut Vec<u8>,
     names: &[Name],

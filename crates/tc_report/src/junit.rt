@@ -185,7 +185,6 @@ fn append_why(out: &mut Vec<u8>, case: &Summary, verdict: Verdict) -> Result<(),
     }
 }
 
-// Appends the element of a verdict that is worse than pass, between its first text and its last tag.
 #[tactic(auto, unfolding(crate::specs::Junit::verdict_element))]
 fn append_verdict_element(
     out: &mut Vec<u8>,
@@ -246,7 +245,6 @@ fn append_end_element(out: &mut Vec<u8>, case: &Summary) -> Result<(), NoMemory>
     }
 }
 
-// Appends the first tag of a test case, without its time.
 #[tactic(auto, unfolding(crate::specs::Junit::name_tag))]
 fn append_name_tag(out: &mut Vec<u8>, suite: &[u8], name: &Name) -> Result<(), NoMemory>
     ensures { OnOk result (out.new.items ≡ out.old.items ++ spec.name_tag suite.now name.now) }
@@ -255,7 +253,6 @@ fn append_name_tag(out: &mut Vec<u8>, suite: &[u8], name: &Name) -> Result<(), N
     append_text_attribute(out, " classname=\"", suite)
 }
 
-// Appends the components by their local verdicts, and the last tag of a test case.
 #[tactic(auto, unfolding(crate::specs::Junit::locals_element))]
 fn append_locals_element(
     out: &mut Vec<u8>,

@@ -174,7 +174,6 @@ fn append_start_in(
     append_args_in(out, names, " with ", comps)
 }
 
-// Appends words, and which component is meant; if memory runs out, a part of it.
 fn append_about(
     out: &mut Vec<u8>,
     names: &Names,

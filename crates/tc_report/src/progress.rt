@@ -119,7 +119,6 @@ fn why(alloc: Global, case: &Finished) -> Result<Vec<u8>, NoMemory>
     Ok(text)
 }
 
-// Appends the line of the test case, with this reason, after its front.
 fn append_line(
     out: &mut Vec<u8>,
     case: &Finished,
@@ -248,7 +247,6 @@ impl<'a, 'c, O: Observer, E: Write, C: Clock> Progress<'a, 'c, O, E, C> {
         }
     }
 
-    // Prints the line of the next test case, if there is one.
     #[tactic(auto, using(crate::proofs::Writing::prefix_none))]
     fn print_next(&mut self) -> Result<(), OutFault>
         ensures all { OnOk result (Appends (E.contents self.old.writer.now) (E.contents self.new.writer.now)

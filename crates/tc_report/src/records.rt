@@ -53,7 +53,6 @@ fn push_counts(alloc: Global, row: &mut ByteRecord, locals: &[Verdict]) -> Resul
     push_count(alloc, row, count_of(locals, Verdict::Error))
 }
 
-// Adds the fields of a test case, the first ones of a row.
 fn push_fields(alloc: Global, row: &mut ByteRecord, case: &Summary) -> Result<(), NoMemory>
     requires none { fields_of row.old ≡ [] }
     requires partial { partial_of row.old ≡ [] }

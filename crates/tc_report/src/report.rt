@@ -29,7 +29,6 @@ pub(crate) fn append_op(out: &mut Vec<u8>, op: &Op) -> Result<(), NoMemory>
     }
 }
 
-// What is shown of a setting that was carried out.
 fn set_line(setting: UserVerdict) -> &'static str
     ensures { result.now ≡ codes "  " ++ ((op_text (Op.SetVerdict setting) ++ (codes " -> " ++ reply_text Reply.Ok)) ++ 10 ∷ []) }
 {
@@ -41,7 +40,6 @@ fn set_line(setting: UserVerdict) -> &'static str
     }
 }
 
-// What is shown of a getverdict and the verdict that it got.
 fn got_line(verdict: Verdict) -> &'static str
     ensures { result.now ≡ codes "  " ++ ((op_text Op.GetVerdict ++ (codes " -> " ++ reply_text (Reply.Local verdict))) ++ 10 ∷ []) }
 {

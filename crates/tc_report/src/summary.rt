@@ -91,7 +91,6 @@ fn summary_with(
     })
 }
 
-// The lines of who waits for whom in this history of a test case of that many behaviours, if its verdict is error.
 fn waits_in(
     alloc: Global,
     summary: &Summary,

@@ -103,7 +103,6 @@ fn append_member(
     append_next(out, room, text.as_slice())
 }
 
-// Appends the other components of a list, whose line has that many columns left.
 fn append_listed(
     out: &mut Vec<u8>,
     names: &[Option<Name>],
