@@ -33,6 +33,16 @@ pub(crate) enum Slot {
     LineEnd,
 }
 
+// The words of a script's lines, of calls, and of dynamic errors.
+const KEYWORDS: &str =
+    "testcase behaviour end create start stop kill stopcase running alive done killed wait setverdict getverdict";
+
+const VERBS: &str =
+    "create start stop kill stopcase running alive done killed wait setverdict getverdict wake finish";
+
+const ERRORS: &str =
+    "no-component not-main start-main already-running not-startable no-behaviour too-many stuck";
+
 /// Whether the text has this word.
 pub(crate) fn has_word(text: &str, word: &[u8]) -> bool {
     text.as_bytes()
@@ -65,16 +75,10 @@ impl Slot {
     // The words that may be there, besides names and numbers, and what is printed after those that are listed.
     fn texts(self) -> (&'static str, &'static str) {
         match self {
-            Slot::Keyword => (
-                "testcase behaviour end create start stop kill stopcase running alive done killed wait setverdict getverdict",
-                "",
-            ),
+            Slot::Keyword => (KEYWORDS, ""),
             Slot::Run => ("", "the number of a run"),
             Slot::Entry => ("end", "the number of a run, or end"),
-            Slot::Verb => (
-                "create start stop kill stopcase running alive done killed wait setverdict getverdict wake finish",
-                "",
-            ),
+            Slot::Verb => (VERBS, ""),
             Slot::TestCase => ("", "the name of a test case"),
             Slot::Behaviour => ("", "the name of a behaviour"),
             Slot::Parameters => ("", "a parameter, or the end of the line"),
@@ -95,10 +99,7 @@ impl Slot {
                 "",
             ),
             Slot::Made => ("", "the number of a component"),
-            Slot::Error => (
-                "no-component not-main start-main already-running not-startable no-behaviour too-many stuck",
-                ", or the end of the line",
-            ),
+            Slot::Error => (ERRORS, ", or the end of the line"),
             Slot::Overall => (
                 "none pass inconc fail error",
                 "none, pass, inconc, fail or error",
