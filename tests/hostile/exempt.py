@@ -74,5 +74,5 @@ UNTRIED: Tuple[Exempt, ...] = (
     (("Sentence::bytes", "MetRuns::add_line", "explored_status", "first_names", "level", "is_found", "steps_of", "next_call", "CaseState::parked", "CaseState::active_on", "Course::known", "Course::turn",
       "Course::would", "Course::carried", "Course::is_over", "Course::components", "Course::phase_of", "Course::is_alive_type",
       "Course::is_active", "Course::comp_of", "Course::local", "Course::verdict", "Course::history", "Standing::comp", "Standing::bound",
-      "Standing::called", "Standing::wake"), "they only look at what they are lent"),
+      "Standing::called", "Standing::has_left", "Standing::wake"), "they only look at what they are lent"),
 )

@@ -1,7 +1,7 @@
 -- Complete courses and the verdicts with which they end.
-use Rattle.std.specs.Prelude.{ℕ, ◌≡◌, ◌==◌, ◌+◌, ◌*◌, Bool, true, false, List, length, reverse, slice_index_or, All}
-use Rattle.std.specs.List.{list_any}
-use Rattle.tc_rules.specs.Prelude.{Verdict, level_of, Entry, IsLegal, overall}
+use Rattle.std.specs.Prelude.{ℕ, ◌≡◌, ◌==◌, ◌≤◌, ◌+◌, ◌*◌, ◌++◌, Bool, true, false, List, length, reverse, slice_index_or, All}
+use Rattle.std.specs.List.{AllZip, list_any}
+use Rattle.tc_rules.specs.Prelude.{Verdict, level_of, Comp, Entry, Op, IsLegal, overall}
 use Rattle.tc_step.specs.Prelude.{ScriptView}
 use Rattle.tc_course.specs.{Course.{IsComplete, IsCourse}, declared.witness.Witness.Witness}
 
@@ -10,6 +10,26 @@ pub record IsWitness (scripts : List ScriptView) (history : List Entry) (v : Ver
   pub course : IsCourse scripts (reverse history)
   pub complete : IsComplete scripts (reverse history)
   pub verdict : v ≡ overall (reverse history)
+
+-- an operation as it was noted: of a Start the last arguments may be left out
+abbrev pub IsNoted : Op → Op → Type 0
+IsNoted (Op.Start c run args) op = (more : List Comp) × (op ≡ Op.Start c run (args ++ more))
+IsNoted noted op = op ≡ noted
+
+-- an entry as it was noted
+pub record IsNotedEntry (noted e : Entry) : Type 0 where
+  pub caller : e.caller ≡ noted.caller
+  pub op : IsNoted noted.op e.op
+  pub reply : e.reply ≡ noted.reply
+
+-- In a test case of that many behaviours, the first of which are these scripts, this was noted: with the arguments that were left out it is
+-- a complete course that ends with this verdict.
+pub record IsShown (scripts : List ScriptView) (behaviours : ℕ) (noted : List Entry) (v : Verdict) : Type 0 where
+  pub some : 1 ≤ length scripts
+  pub few : length scripts ≤ behaviours
+  pub history : List Entry
+  pub entries : AllZip IsNotedEntry noted history
+  pub witness : IsWitness scripts history v
 
 -- each of these is a witness
 abbrev pub AreWitnesses : List ScriptView → List Witness → Type 0

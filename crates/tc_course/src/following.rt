@@ -1,32 +1,50 @@
 //! Whether a history is a complete course of scripts.
-ghost use Rattle.std.specs.Prelude.{◌≡◌, ◌↔◌, ◌≤◌, ◌∷◌, true, IfOk, IfNone, IfSome, length};
+ghost use Rattle.std.specs.Prelude.{◌≡◌, ◌↔◌, ◌≤◌, ◌∷◌, true, IfOk, IfNone, IfSome, IsTrue, length};
 ghost use Rattle.tc_entry.specs.declared.limits.TheConstants.{BEHAVIOURS};
 ghost use Rattle.tc_rules.specs.Prelude.{past_of, overall};
-ghost use Rattle.tc_course.specs.{Course.IsComplete, Course.IsOn, Course.IsTurn, Witnesses.IsWitness};
+ghost use Rattle.tc_course.specs.{Course.IsComplete, Course.IsOn, Course.IsTurn, Witnesses.IsNoted, Witnesses.IsNotedEntry, Witnesses.IsShown};
 
 use crate::course::Course;
 use crate::next::next_call;
 use std::alloc::Global;
-use tc_entry::Entry;
+use tc_entry::{Entry, Op};
 use tc_step::Script;
 use tc_verdict::{NoMemory, Run, Verdict};
 
-// The course with this entry, if it is what its caller calls next, with the table's reply.
+// Whether the operation is the one that was noted.
+fn is_noted(noted: &Op, op: &Op) -> bool
+    ensures { IsTrue result ↔ IsNoted noted.now op.now }
+{
+    let (
+        Op::Start {
+            comp: c,
+            run: r,
+            args: first,
+        },
+        Op::Start { comp, run, args },
+    ) = (noted, op)
+    else {
+        return op.same(noted);
+    };
+    *comp == *c && *run == *r && args.as_slice().starts_with(first.as_slice())
+}
+
+// The course with the entry that was noted, if it is what its caller calls next, with the table's reply.
 #[tactic(auto, using(crate::proofs::Lemmas::turn_rules, crate::proofs::Followed::following_rules))]
-fn with_entry(course: Course, scripts: &[Script], entry: &Entry) -> Result<Option<Course>, NoMemory>
+fn with_entry(course: Course, scripts: &[Script], noted: &Entry) -> Result<Option<Course>, NoMemory>
     requires some { 1 ≤ length scripts.now }
     requires on { IsOn scripts.now course }
     ensures on { IfOk result (λ o. IfSome o (IsOn scripts.now)) }
-    ensures added { IfOk result (λ o. IfSome o (λ c. past_of c ≡ entry.now ∷ past_of course)) }
-    ensures refused { IfOk result (λ o. IfNone o (IsTurn scripts.now (past_of course) entry.now → ⊥)) }
+    ensures added { IfOk result (λ o. IfSome o (λ c. (e : Entry) × IsNotedEntry noted.now e × (past_of c ≡ e ∷ past_of course))) }
+    ensures refused { IfOk result (λ o. IfNone o ((e : Entry) → IsNotedEntry noted.now e → IsTurn scripts.now (past_of course) e → ⊥)) }
 {
-    let Some(op) = next_call(&course, scripts, entry.caller) else {
+    let Some(op) = next_call(&course, scripts, noted.caller) else {
         return Ok(None);
     };
-    if !op.same(&entry.op) || !course.would(entry.caller, &op).same(&entry.reply) {
+    if !is_noted(&noted.op, &op) || !course.would(noted.caller, &op).same(&noted.reply) {
         return Ok(None);
     }
-    let next = course.with(entry.caller, op)?;
+    let next = course.with(noted.caller, op)?;
     Ok(Some(next))
 }
 
@@ -54,20 +72,23 @@ fn ends_with(course: &Course, scripts: &[Script], verdict: Verdict) -> bool
     is_complete(course, scripts) && course.verdict() == verdict
 }
 
-/// Whether the entries, the oldest first, are a complete course of a test case whose behaviours are these scripts, and
-/// this is its overall verdict.
+/// Whether the entries, the oldest first, are a complete course of a test case of that many behaviours, the first of which
+/// are these scripts, and this is its overall verdict. In an entry the last arguments of a start may be left out.
 pub fn is_course(
     alloc: Global,
     scripts: &[Script],
-    history: &[Entry],
+    behaviours: u16,
+    noted: &[Entry],
     verdict: Verdict,
 ) -> Result<bool, NoMemory>
-    requires some { 1 ≤ length scripts.now }
-    requires few { length scripts.now ≤ BEHAVIOURS }
-    ensures { IfOk result (λ is. (is ≡ true) ↔ IsWitness scripts.now history.now verdict) }
+    requires { length scripts.now ≤ BEHAVIOURS }
+    ensures { IfOk result (λ is. (is ≡ true) ↔ IsShown scripts.now behaviours noted.now verdict) }
 {
+    if scripts.is_empty() || scripts.len() > usize::from(behaviours) {
+        return Ok(false);
+    }
     let mut course = Course::opening(alloc, scripts.len() as u16)?;
-    for entry in history {
+    for entry in noted {
         let Some(next) = with_entry(course, scripts, entry)? else {
             return Ok(false);
         };

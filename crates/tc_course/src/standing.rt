@@ -143,6 +143,13 @@ impl Standing {
         self.called
     }
 
+    /// Whether its pass has ended.
+    pub fn has_left(&self) -> bool
+        ensures { result ≡ self.now.left }
+    {
+        self.left
+    }
+
     /// The Wake to come, if its last call was parked.
     pub fn wake(&self) -> Option<&Op>
         ensures { option_copied result ≡ self.now.wake }

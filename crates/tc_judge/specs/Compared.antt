@@ -1,9 +1,9 @@
 -- Histories and evidence after their script in one text, and what of them is no course of its test cases.
-use Rattle.std.specs.{Prelude.{ℕ, ◌≡◌, ◌==◌, ◌≤◌, nat_lt, Bool, true, false, if◌then◌else◌, Option, Some, None, not, List, [], ◌∷◌, ◌++◌, codes, filter, length, map, position, reverse, slice_get, ◌↔◌, All}, List.{flat_map, list_any}, Option.option_map_or}
+use Rattle.std.specs.{Prelude.{ℕ, ◌≡◌, ◌==◌, nat_lt, Bool, true, false, if◌then◌else◌, Option, Some, None, not, List, [], ◌∷◌, ◌++◌, codes, filter, length, map, position, reverse, slice_get, ◌↔◌, All}, List.{flat_map, list_any}, Option.option_map_or}
 use Rattle.tc_command.specs.declared.task.{Choice.Choice, ReportForm.ReportForm}
 use Rattle.tc_answer.specs.{declared.{fault.RunFault.RunFault, reply.Answer.Answer}, Prelude.{AreChosen, RefusesChoice, CaseView, scripts_of, script_part, blocks_part}}
 use Rattle.tc_blocks.specs.{declared.block.Block.Block, Prelude.{entries_of, AreEvidence, HoldsOfBlocks}}
-use Rattle.tc_course.specs.Prelude.{IsWitness}
+use Rattle.tc_course.specs.Prelude.{IsShown}
 use Rattle.tc_step.specs.Prelude.{ScriptView}
 use Rattle.tc_reader.specs.Prelude.{is_text, CampaignView, Word}
 use Rattle.tc_judge.specs.{Check.{IsChecked, RefusesHistory, counting, IsLegalBlock, is_passing}, Report.IsReport, declared.compare.Wrong.Wrong}
@@ -21,10 +21,8 @@ abbrev pub has_later : CampaignView → List Block → ℕ → Bool
 has_later cases blocks p = list_any (λ b. option_map_or (nat_lt p) (place_in cases b.header.name) false) blocks
 
 -- the block is a complete course of these scripts, with its verdict
-pub record IsCourseOf (scripts : List ScriptView) (b : Block) : Type 0 where
-  pub some : 1 ≤ length scripts
-  pub behaviours : b.header.behaviours ≡ length scripts
-  pub witness : IsWitness scripts (entries_of b.lines) b.verdict
+abbrev pub IsCourseOf : List ScriptView → Block → Type 0
+IsCourseOf scripts b = IsShown scripts b.header.behaviours (entries_of b.lines) b.verdict
 
 -- what is wrong with a block after these, if something is
 pub data IsJudged (cases : CampaignView) (before : List Block) (b : Block) : Option Wrong → Type 0 where

@@ -81,10 +81,13 @@ fn is_course_of<S: Says + Drop>(
         entries,
         ..
     } = &block.kept;
-    if scripts.is_empty() || scripts.len() != usize::from(*behaviours) {
-        return Ok(false);
-    }
-    is_course(alloc, scripts, entries.as_slice(), block.verdict)
+    is_course(
+        alloc,
+        scripts,
+        *behaviours,
+        entries.as_slice(),
+        block.verdict,
+    )
 }
 
 // The names of test cases, which are different.

@@ -38,7 +38,7 @@ fn tell<R: Abort>(
     requires some { 1 ≤ length scripts.now }
     requires few { length scripts.now ≤ BEHAVIOURS }
 {
-    let is = is_course(alloc, scripts, history, verdict)?;
+    let is = is_course(alloc, scripts, scripts.len() as u16, history, verdict)?;
     assert_eq!(rt; is, is_played(alloc, scripts, history, verdict)?);
     if is {
         told.courses = told.courses.saturating_add(1);
@@ -99,7 +99,13 @@ fn tell_run<R: Abort + Threads + Wait + Copy + Send + 'static>(
     let scripts = scripts.as_slice();
     let history = report.history.as_slice();
     assert!(rt;
-        is_course(alloc, scripts, history, report.verdict)?,
+        is_course(
+            alloc,
+            scripts,
+            scripts.len() as u16,
+            history,
+            report.verdict
+        )?,
         "{seed}"
     );
     for verdict in [Verdict::None, Verdict::Pass, Verdict::Fail, Verdict::Error] {
