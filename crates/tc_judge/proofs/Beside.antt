@@ -1,5 +1,5 @@
 -- Blocks next to the test cases of their script: what is kept of them while they are taken in.
-use Rattle.std.{proofs.{Common.{ℕ, zero, suc, ◌≡◌, ◌∙◌, ◌+◌, ◌<◌, ◌≤◌, ◌||◌, ◌==◌, cond, not, nat_lt, Bool, true, false, Option, Some, None, List, [], ◌∷◌, ◌++◌, drop, if◌then◌else◌, map, length, get_or, replicate, reverse, take, slice_get, slice_index_or, slice_set, get_or-set_same, refl, sym, ap, ap₂, subst, arith}, lemmas.{Bool.Decides.nat_tests, Grind.elements, List.{Quantifiers.position-Some, append-nil, drop_more, map-append, reverse-append, take-append-drop, take_all, take_more}}}, specs.{Cmp.Lexicographic.bytes_decides, List.{AllZip, list_any, position_or_len}, Option.option_map_or}}
+use Rattle.std.{proofs.{Common.{ℕ, zero, suc, ◌≡◌, ◌∙◌, ◌+◌, ◌<◌, ◌≤◌, ◌||◌, ◌==◌, not, nat_lt, Bool, true, false, Option, Some, None, List, [], ◌∷◌, ◌++◌, drop, if◌then◌else◌, map, length, get_or, replicate, reverse, take, slice_get, slice_index_or, slice_set, get_or-set_same, refl, sym, ap, ap₂, subst, arith}, lemmas.{Bool.Decides.nat_tests, Grind.elements, List.{Quantifiers.position-Some, append-nil, drop_more, map-append, reverse-append, take-append-drop, take_all, take_more}}}, specs.{Cmp.Lexicographic.bytes_decides, List.{AllZip, list_any, position_or_len}, Option.option_map_or}}
 use Rattle.tc_blocks.specs.declared.block.Block.{Block}
 use Rattle.tc_reader.specs.Prelude.{is_text, CampaignView, Word, add, among, has_twice}
 use Rattle.tc_step.specs.Prelude.{ScriptView}

@@ -1,7 +1,7 @@
 -- Blocks of which the last of each name counts.
-use Rattle.std.{proofs.{Common.{ℕ, zero, suc, ◌≡◌, ◌∙◌, ◌+◌, ◌<◌, ◌==◌, ◌||◌, cond, not, nat_lt, Bool, true, false, Option, Some, None, List, [], ◌∷◌, ◌++◌, fold, if◌then◌else◌, get_or, length, map, slice_set, refl, ap, ap₂, subst, sym, arith}, lemmas.{Bool.Decides.nat_tests, List.{Quantifiers.position-Some, length-map, map-append}}}, specs.{Cmp.Lexicographic.bytes_decides, List.{AllZip, list_any, position_or_len}, Prelude.position}}
+use Rattle.std.{proofs.{Common.{ℕ, zero, suc, ◌≡◌, ◌∙◌, ◌+◌, ◌<◌, ◌||◌, cond, not, nat_lt, Bool, true, false, Some, None, List, [], ◌∷◌, ◌++◌, fold, if◌then◌else◌, get_or, length, map, slice_set, refl, ap, ap₂, subst, sym, arith}, lemmas.{Bool.Decides.nat_tests, List.{Quantifiers.position-Some, length-map, map-append}}}, specs.{Cmp.Lexicographic.bytes_decides, List.{AllZip, list_any, position_or_len}, Prelude.position}}
 use Rattle.tc_answer.proofs.Lemmas.Chosen.{or_left, or_right}
-use Rattle.tc_blocks.specs.{Prelude.HoldsOfBlocks, declared.block.Block.Block}
+use Rattle.tc_blocks.specs.{declared.block.Block.Block}
 use Rattle.tc_reader.specs.Prelude.{Word, add, among, is_text}
 use Rattle.tc_judge.specs.{Inside.{AreJudgedIn, IsJudgedBlock, PutsNext, block_name, judged_name}, Check.{counting, put, that_count}, declared.judged.Judged.Judged}
 

@@ -1,7 +1,7 @@
 -- Judged blocks: what `check` and `report` make of them.
-use Rattle.std.{proofs.{Common.{ℕ, ◌≡◌, ◌≢◌, ◌∙◌, ◌&&◌, ◌||◌, ◌==◌, cond, not, Bool, true, false, Option, Some, None, List, [], ◌∷◌, ◌++◌, if◌then◌else◌, filter, length, map, reverse, refl, ap, ap₂, sym, subst, codes, Result, Err}, lemmas.List.{append-nil, Elements.{All-cons, All-head, All-nil, All-tail}}}, specs.{List.{AllZip, flat_map, list_any}, Prelude.{IsErrAnd, is_some, Ok}}}
+use Rattle.std.{proofs.{Common.{ℕ, ◌≡◌, ◌≢◌, ◌∙◌, ◌&&◌, ◌||◌, ◌==◌, cond, not, Bool, true, false, Option, Some, None, List, [], ◌∷◌, ◌++◌, if◌then◌else◌, filter, length, map, reverse, refl, ap, ap₂, sym, subst, codes, Result, Err}, lemmas.List.{Elements.{All-cons, All-head, All-nil, All-tail}}}, specs.{List.{AllZip, flat_map, list_any}, Prelude.{IsErrAnd, is_some, Ok}}}
 use Rattle.tc_answer.{specs.{Prelude.have_names, declared.{fault.RunFault.RunFault, reply.Answer.Answer}}, proofs.Lemmas.Chosen.at_place}
-use Rattle.tc_blocks.specs.{declared.{block.Block.Block, line.Line.Line}, Prelude.{AreEvidence, entries_of, entry_in}}
+use Rattle.tc_blocks.specs.{declared.{block.Block.Block, line.Line.Line}, Prelude.{entries_of, entry_in}}
 use Rattle.tc_command.specs.declared.task.{Choice.Choice, ReportForm.ReportForm}
 use Rattle.tc_report.{specs.{Prelude.{block_summary, blocks_report, bare_summary, replayed_text, said_in, said_with, summary_of, verdict_status, verdicts_closing, worst_of}, declared.{results.CaseEnd.CaseEnd, said.Said.Said, summary.Summary.Summary}}, proofs.Lemmas.Telling.said_more}
 use Rattle.tc_rules.specs.Prelude.{Entry, StandsFor, Verdict, matches, name_of}
