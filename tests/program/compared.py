@@ -17,10 +17,10 @@ from table import VERDICTS
 from texts import Block, Judged, check, judge_block, read_history
 
 A = "testcase a;behaviour m;setverdict pass;end;end"
-B = "testcase b;behaviour m;create p;start p other;wait done p;end;behaviour other;setverdict fail;end;end"
+B = "testcase b;behaviour m;create p;start p other p mtc;wait done p;end;behaviour other q r;setverdict fail;end;end"
 C = "testcase c;behaviour m;getverdict;end;end"
 OF_A = "history 2 a 1;0 setverdict pass -> ok;0 finish -> ok;end pass"
-OF_B = ("history 2 b 2;0 create -> made 1;0 start 1 1 -> ok;1 setverdict fail -> ok;1 finish -> ok;0 wait done 1 -> matched;"
+OF_B = ("history 2 b 2;0 create -> made 1;0 start 1 1 1 0 -> ok;1 setverdict fail -> ok;1 finish -> ok;0 wait done 1 -> matched;"
         "0 finish -> ok;end fail")
 OF_C = "evidence 1 c 1;behaviour 0 m;0 getverdict -> none;0 # nothing was set;0 finish -> ok;end none"
 OF_D = OF_C.replace(" c ", " d ")
@@ -53,8 +53,18 @@ ROWS: List[Tuple[str, str, str, int]] = [
      f"legal a 2 fail;{LEGAL_B};{LEGAL_C};no course a", 3),
     ("a_step_more", f"history 2 a 1;0 setverdict pass -> ok;0 getverdict -> pass;0 finish -> ok;end pass;{OF_B};{OF_C}",
      f"legal a 3 pass;{LEGAL_B};{LEGAL_C};no course a", 3),
-    ("another_number_of_behaviours", f"history 2 a 2;0 setverdict pass -> ok;0 finish -> ok;end pass;{OF_B};{OF_C}",
-     f"legal a 2 pass;{LEGAL_B};{LEGAL_C};no course a", 3),
+    ("more_behaviours_than_the_script", f"{OF_A.replace('a 1', 'a 2')};{OF_B.replace('b 2', 'b 256')};{OF_C}", f"{LEGAL_A};{LEGAL_B};{LEGAL_C}", 0),
+    ("fewer_behaviours_than_the_script", f"{OF_A};history 2 b 1;0 create -> made 1;0 start 1 1 1 0 -> error no-behaviour;end error;{OF_C}",
+     f"{LEGAL_A};legal b 2 error;{LEGAL_C};no course b", 3),
+    ("a_start_of_a_behaviour_that_the_script_has_not", f"{OF_A};history 2 b 3;0 create -> made 1;0 start 1 2 1 0 -> ok;2 setverdict fail -> ok;"
+     f"2 finish -> ok;0 wait done 1 -> matched;0 finish -> ok;end fail;{OF_C}", f"{LEGAL_A};{LEGAL_B};{LEGAL_C};no course b", 3),
+    ("the_last_argument_is_left_out", f"{OF_A};{OF_B.replace('1 1 1 0', '1 1 1')};{OF_C}", f"{LEGAL_A};{LEGAL_B};{LEGAL_C}", 0),
+    ("all_arguments_are_left_out", f"{OF_A};{OF_B.replace('1 1 1 0', '1 1')};{OF_C}", f"{LEGAL_A};{LEGAL_B};{LEGAL_C}", 0),
+    ("the_first_argument_is_left_out", f"{OF_A};{OF_B.replace('1 1 1 0', '1 1 0')};{OF_C}", f"{LEGAL_A};{LEGAL_B};{LEGAL_C};no course b", 3),
+    ("another_last_argument", f"{OF_A};{OF_B.replace('1 1 1 0', '1 1 1 1')};{OF_C}", f"{LEGAL_A};{LEGAL_B};{LEGAL_C};no course b", 3),
+    ("an_argument_more", f"{OF_A};{OF_B.replace('1 1 1 0', '1 1 1 0 0')};{OF_C}", f"{LEGAL_A};{LEGAL_B};{LEGAL_C};no course b", 3),
+    ("arguments_and_behaviours_are_left_out", f"{OF_A};{OTHER_ORDER.replace('1 1 1 0', '1 1').replace('b 2', 'b 3')};{OF_C}",
+     f"{LEGAL_A};legal b 7 fail;{LEGAL_C}", 0),
     ("no_entries", f"history 2 a 1;end none;{OF_B};{OF_C}", f"legal a 0 none;{LEGAL_B};{LEGAL_C};no course a", 3),
     ("another_verdict", f"{OF_A.replace('end pass', 'end fail')};{OF_B};{OF_C}", "line 4: fail, table gives pass;no course a", 3),
     ("another_reply", f"{OF_A};{OF_B};{OF_C.replace('getverdict -> none', 'getverdict -> pass')}",
@@ -158,7 +168,7 @@ def wanted_of(campaign: Campaign, behind: bytes) -> Union[Ran, Judged]:
 def changed(chance: random.Random, blocks: List[List[bytes]]) -> List[List[bytes]]:
     """The blocks with some change or other."""
     found, at = [list(it) for it in blocks], chance.randrange(len(blocks))
-    drawn = chance.randrange(9)
+    drawn = chance.randrange(11)
     if drawn == 0:
         del found[at]
     elif drawn == 1:
@@ -177,6 +187,10 @@ def changed(chance: random.Random, blocks: List[List[bytes]]) -> List[List[bytes
         one = chance.randrange(1, len(found[at]) - 2)
         found[at][one], found[at][one + 1] = found[at][one + 1], found[at][one]
     elif drawn == 7:
+        found[at][0] = re.sub(rb"\d+\n", b"%d\n" % chance.choice((1, 2, 3, 256)), found[at][0])
+    elif drawn == 8:
+        found[at] = [re.sub(rb"( start \d+ \d+.*?)( \d+)?( -> .*)", chance.choice((rb"\1\3", rb"\1\2\2\3", rb"\1 0\2\3")), it) for it in found[at]]
+    elif drawn == 9:
         found[at][-1] = f"end {chance.choice(VERDICTS)}\n".encode()
     return found
 

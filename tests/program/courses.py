@@ -157,14 +157,20 @@ def with_names(case: TestCase, block: Block) -> Block:
     return replace(block, said=[(0, Said(run, "", it.name)) for run, it in enumerate(case.behaviours)])
 
 
+def without_last(op: Op, noted: Op) -> Op:
+    """The call with as many arguments as were noted, if it has them."""
+    return replace(op, args=op.args[:len(noted.args)])
+
+
 def fault_of_course(case: TestCase, block: Block) -> str:
-    """Why a block is no complete course of a test case with its verdict; nothing if it is one."""
-    if (block.name, block.behaviours) != (case.name, len(case.behaviours)):
+    """Why a block is no complete course of a test case with its verdict; nothing if it is one. It may have more behaviours than the
+    test case, and leave out the last arguments of a start."""
+    if block.name != case.name or block.behaviours < len(case.behaviours):
         return f"{block.name} {block.behaviours} is written for {case.name} {len(case.behaviours)}"
     state = State(case)
     for entry in block.entries:
         wanted = state.next_of(entry.caller)
-        if wanted is None or (wanted.op, wanted.reply) != (entry.op, entry.reply):
+        if wanted is None or (without_last(wanted.op, entry.op), wanted.reply) != (entry.op, entry.reply):
             return f"{case.name}, line {entry.line}: {entry.text()}, and {wanted and wanted.text()} is the next call"
         state.step(entry.caller)
     if state.going:
