@@ -72,8 +72,8 @@ uint8_t filskeam_history(filskeam_case *place, const void *name, size_t name_siz
 uint8_t filskeam_close(filskeam_case *place);
 
 /* Answers as `ttrun` does to these arguments, each ended by a zero byte, and this input: `check`, `replay`, `explore`,
-   `report`. It begins no run. Returns the exit status. Each output is copied if it has room; the counts say in any
-   case how many bytes there are. */
+   `report`, `model`. It begins no run. Returns the exit status. Each output is copied if it has room; the counts say in
+   any case how many bytes there are. */
 uint8_t filskeam_answer(const void *arguments, size_t arguments_size, const void *input, size_t input_size,
                         void *output, size_t output_size, size_t *output_count,
                         void *errors, size_t errors_size, size_t *errors_count);

@@ -29,7 +29,7 @@ RUN: Tuple[Tuple[str, str, str, str], ...] = (
 TYPED: Tuple[Tuple[str, str, str, str], ...] = (
     ("README.md", "race.script", BLOCKS, "the_race_of_the_readme"),
     (GUIDE, "< examples/", SHOWN, "of_documents"), (PIPELINES, "campaign.script", BLOCKS, "commands_in_the_text"),
-    ("docs/benches.md", "< heater.script", BLOCKS, "the_model_of_a_bench"))
+    ("docs/benches.md", "< two.script", BLOCKS, "the_model_of_a_bench"))
 # A command with an input; one with a word in capitals is a pattern.
 INPUT, PATTERN = re.compile(r"(?:\./ttrun|cat) .*[<|]"), re.compile(r"\b[A-Z]{2,}\b")
 # Options of programs that are not of this repository, by the first word of a command.

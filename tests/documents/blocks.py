@@ -312,14 +312,17 @@ class Blocks(Room):
         return printed
 
     def the_model_of_a_bench(self) -> str:
-        """Its script has the line that is shown, and another one without the wait."""
+        """Its script is made of the lines of the bench with two behaviours. It has the line that is shown, and another one without the wait."""
         document, text = read(TOP, BENCHES), " ".join(read(TOP, BENCHES).lines)
         script = next(block.text for block in document.blocks() if block.text.startswith("testcase "))
         wait = re.search(r"Without the line `([^`]*)` it prints", text)[1]
         hold(script.count(f"  {wait}\n") == 1, f"{BENCHES}: no line {wait}")
-        command = re.search(r"`(\./ttrun explore < heater\.script)`", text)[1]
+        bench = next(block.text for block in document.blocks() if "> two.evidence" in block.text)
+        self.write("two.lines", "".join(f"{it}\n" for it in re.findall(r'ask "([^"]*)"', bench)))
+        same(script, self.shell(("bash",), "./ttrun serve < two.lines | ./ttrun model").output)
+        command = re.search(r"`(\./ttrun explore < two\.script)`", text)[1]
         for given, status in ((script, 0), (script.replace(f"  {wait}\n", ""), 1)):
-            self.write("heater.script", given)
+            self.write("two.script", given)
             ran = self.shell(("bash",), command)
             hold(ran.status == status and f"`{ran.output.strip()}`" in text, f"{BENCHES}: {ran}")
         return "2 scripts"

@@ -26,7 +26,7 @@ PARTS = ("ttrun", "MANIFEST", "SHA256SUMS", "README.md", "CHANGELOG.md", "docs/g
 NEEDED = ("release", ".gitignore", "*.md", "docs", "examples", "page", "clients", "tools/manual.py")
 MANUAL, BASH, ZSH, FISH = (f"share/{it}" for it in ("man/man1/ttrun.1", "bash-completion/completions/ttrun", "zsh/vendor-completions/_ttrun",
                                                   "fish/vendor_completions.d/ttrun.fish"))
-SUBCOMMANDS = ("run", "serve", "explore", "check", "report", "replay")
+SUBCOMMANDS = ("run", "serve", "explore", "check", "report", "model", "replay")
 VERDICTS_TO_STOP_ON = ["none", "pass", "inconc", "fail", "error"]
 
 

@@ -11,9 +11,10 @@ REFUSED_BY_THE_PROGRAM = ("explain", "html_page", "read_task", "read_cases_task"
                           "read_script", "chosen_cases", "choose_cases", "with_jobs", "line_with", "refuse", "refuse_words", "give_answer",
                           "run_cases", "serve", "choose", "read_evidence", "Block::history", "check_text", "check_input", "report_text",
                           "report_input", "compare_text", "report_compared", "cases_to_run", "explore_locals", "append_locals",
-                          "append_unknown", "explore", "tc_explored::append_line", "append_witnesses", "append_details", "is_course")
+                          "append_unknown", "explore", "tc_explored::append_line", "append_witnesses", "append_details", "is_course", "models_of",
+                          "notes_of", "counted")
 # The tasks by which nothing else refuses these calls each growth: in the gate too each one is refused.
-EACH = ("--explain", "--html", "--text", "serve", "--live", "--progress", "--shard", "--script", "--failed", "--summary", "--suite", "--locals", "--details")
+EACH = ("--explain", "--html", "--text", "serve", "--live", "--progress", "--shard", "--script", "--failed", "--summary", "--suite", "--locals", "--details", "model")
 # These can answer that memory ran out, and are refused none by themselves.
 UNREFUSED: Tuple[Exempt, ...] = (
     (("read_counted",), "read_input is this call over a reader that is counted"),
@@ -53,7 +54,7 @@ WITHOUT_ALLOCATOR = ("SlowReader::new", "InputFault::text", "WriteFault::text", 
                      "take_short_move", "take_reply", "Reply::is_ok", "Reply::is_ended", "Reply::is_fault", "ends_case", "ends_pass",
                      "created", "started_on", "is_halting", "keeps_phases", "OutFault::text", "CaseError::text", "CloseFault::text",
                      "verdict_status", "MetRuns::none", "MetRuns::add_refused", "MetRuns::contains", "counts", "is_met", "Everyone::allow",
-                     "has_gone_on", "is_asked", "is_of_judged")
+                     "has_gone_on", "is_asked", "is_of_judged", "is_picked", "patterns_match")
 # These take no memory, and are not made with every growth refused by themselves.
 UNTRIED: Tuple[Exempt, ...] = (
     (WITHOUT_ALLOCATOR, "they are handed no allocator"),
@@ -71,7 +72,7 @@ UNTRIED: Tuple[Exempt, ...] = (
       "tc_table::call", "tc_table::history", "give_text", "HeldCase::is_open", "HeldCase::take", "HeldCase::put"),
      "tests/embed/memory.c makes them, and refuses each growth in turn"),
     (("CaseState::comp_of", "Table::parked"), "close_case and the calls on a pass make them"),
-    (("Sentence::bytes", "MetRuns::add_line", "explored_status", "first_names", "level", "is_found", "steps_of", "next_call", "CaseState::parked", "CaseState::active_on", "Course::known", "Course::turn",
+    (("Block::name", "Sentence::bytes", "MetRuns::add_line", "explored_status", "first_names", "level", "is_found", "steps_of", "next_call", "CaseState::parked", "CaseState::active_on", "Course::known", "Course::turn",
       "Course::would", "Course::carried", "Course::is_over", "Course::components", "Course::phase_of", "Course::is_alive_type",
       "Course::is_active", "Course::comp_of", "Course::local", "Course::verdict", "Course::history", "Standing::comp", "Standing::bound",
       "Standing::called", "Standing::has_left", "Standing::wake"), "they only look at what they are lent"),

@@ -69,7 +69,7 @@ def tasks() -> List[Task]:
     found += with_input("a_refused_list", text("behaviours 1;0 crate"), "replay", "replay --explain")
     found += with_input("a_refused_history", text("history 1 t 1;0 finish"), "check --explain")
     for name in ("pumps", "restart", "supervisor"):
-        found += with_input(name, bytes_of(f"{name}.history"), "check")
+        found += with_input(name, bytes_of(f"{name}.history"), "check", "model")
     found += with_input("an_illegal_history", text("history 1 t 1;end pass"), "check")
     evidence = text("evidence 1 t 2;behaviour 0 main;0 # too hot: <b>;0 setverdict fail -> ok;1 ! bad move;0 finish -> ok;end fail")
     found += with_input("evidence", evidence, "check", "report --csv", "report --html")

@@ -30,7 +30,7 @@ from random_scripts import changed, drawn_script
 LEFT = b"ttrun: a run needs threads, and there are none here: try explore\n"
 EXPLORING = (("explore",), ("explore", "--details"), ("explore", "--locals"), ("explore", "--history"), ("explore", "--states", "40"),
              ("run", "--list"), ("run", "--explain"))
-CHECKING = (("check",), ("check", "--explain"), ("report", "--csv"), ("report", "--junit"), ("report", "--html"), ("report", "--csv", "--explain"))
+CHECKING = (("check",), ("check", "--explain"), ("report", "--csv"), ("report", "--junit"), ("report", "--html"), ("report", "--csv", "--explain"), ("model",))
 REPLAYING = (("replay",), ("replay", "--explain"))
 TASKS = {".script": EXPLORING, ".history": CHECKING, ".moves": REPLAYING}
 Answer = Tuple[int, bytes, bytes]
@@ -99,7 +99,7 @@ def every_example_and_task(context: Context, engine: Engine) -> str:
             for words in tasks:
                 compare(context, engine, met, words, text)
                 hold(engine.answer(words, text) == engine.answer(words, text, "small"), f"{words} with little room")
-    for words in (("--help",), ("--version",), ("-h",), ("help",), *((name, "--help") for name in ("run", "explore", "check", "report", "replay")),
+    for words in (("--help",), ("--version",), ("-h",), ("help",), *((name, "--help") for name in ("run", "explore", "check", "report", "model", "replay")),
                   ("frob",), ("explore", "--frob"), ("explore", "--histroy"), ("run", "--only", "a b"), ("report",), ("", ""), ("\u00e9",)):
         compare(context, engine, met, words, b"")
     return reached(met, {"same": 85, "left": 7, "check 0": 8, "replay 0": 2, "explore 0": 20})

@@ -37,6 +37,7 @@ GIVEN: List[Tuple[str, str, bytes]] = [
     ("refused_history_of_a_report_behind_a_script", "report --csv --script", BEHIND),
     ("refused_history_of_what_failed", "run --failed", BEHIND),
     ("refused_script_before_a_history", "check --script", b"testcase a\nbehaviour m\nsetverdct pass\nend\nend\nhistory 2 a 1\nend none\n"),
+    ("refused_history_of_a_model", "model", CRATE),
     ("refused_moves", "replay", b"behaviours 1\n0 crate\n"),
     ("replies", "replay", b"behaviours 1\n"),
 ]
@@ -46,6 +47,7 @@ TYPED: List[Tuple[str, str, bytes]] = [
     ("typed_live", "run --live --csv", RESTART),
     ("typed_refusal", "check", b"no history\n"),
     ("typed_report", "report --csv", b"no history\n"),
+    ("typed_models", "model --last", b"history 1 t 1\n0 finish -> ok\nend none\n"),
     ("typed_long", "check --long --no-explain", b"no history\n"),
     ("typed_moves", "replay", b"behaviours 1\n0 getverdict\n"),
     ("typed_search", "explore", RESTART),
@@ -60,7 +62,7 @@ UNREAD: List[Tuple[str, str, bytes]] = [
     ("refused_rule_with_a_keyboard", "run --stop-on bad", b""),
 ]
 HISTORIES = b"ttrun: reads histories from the terminal; end them with Ctrl-D\n"
-AWAITED = {"check": HISTORIES, "report": HISTORIES, "replay": b"ttrun: reads a list of moves from the terminal; end it with Ctrl-D\n",
+AWAITED = {"check": HISTORIES, "report": HISTORIES, "model": HISTORIES, "replay": b"ttrun: reads a list of moves from the terminal; end it with Ctrl-D\n",
            "serve": b"ttrun: reads lines of test cases from the terminal; end them with Ctrl-D\n"}
 SCRIPT = b"ttrun: reads a script from the terminal; end it with Ctrl-D\n"
 
@@ -70,6 +72,7 @@ READ, WRITE = "read fault", "write fault"
 TAKEN = (
     ("replay", ("replay",), text("behaviours 1;0 setverdict fail")),
     ("check", ("check",), text("history 1 t 1;end none")),
+    ("model", ("model",), text("history 1 t 1;0 finish -> ok;end none;history 1 t 1;end none")),
     ("check_of_an_illegal_one", ("check",), text("history 1 t 1;end pass")),
     ("run", ("run",), examples.bytes_of("workers.script")),
     ("csv", ("run", "--csv"), RESTART),
@@ -90,7 +93,7 @@ def explained(words: Tuple[str, ...]) -> Tuple[str, ...]:
     """The words for a pipe, where nothing is explained unless that is asked for."""
     if not words:
         return ("run", "--explain")
-    takes = words[0] in ("run", "check", "replay", "report", "explore")
+    takes = words[0] in ("run", "check", "replay", "report", "model", "explore")
     return words + ("--explain",) if takes and "--no-explain" not in words else words
 
 

@@ -7,10 +7,10 @@ from case import Case, Judgement, SomeText, Word, answer, as_lines, joined, refu
 from harness import text_of
 from rows import ONLY, SHARD, STOP_ON, blocks_of, text
 
-COMMANDS = ("run", "serve", "check", "replay", "explore", "report", "\n  ttrun run < FILE\nNo argument at all means run.\n",
+COMMANDS = ("run", "serve", "check", "replay", "explore", "report", "model", "\n  ttrun run < FILE\nNo argument at all means run.\n",
             "Each command reads standard input and writes standard output:\n",
             "Status of run, serve, replay and report: 0 for none and pass, 1 for inconc and\nfail, 2 for error.\n",
-            "Status of check: 0 if each history is legal.\n",
+            "Status of check: 0 if each history is legal.\n", "Status of model: 0 if each chosen history has a model.\n",
             "Status of explore: 0 if each test case has one verdict, 1 if one has several,\n2 if one has no verdict but error.\n",
             "3 says that a test case was aborted, a history is not legal, or a search met\nits limit;"
             " or that the arguments or the input were refused, memory ran out, or\n"
@@ -92,6 +92,14 @@ CHECK = ("replays histories and evidence, and says which are legal\n",
          "  no course NAME     this is no complete course of the scripts of NAME\n",
          "  missing NAME       there is nothing of NAME\n",
          "Status: 0 if each history is legal, and with --script no such line is printed;\notherwise 3.\n")
+MODEL = ("writes a script of which histories and evidence are courses\n",
+         *(f"  {option:14}{said}" for option, said in OF_HISTORIES if option not in ("--script", "--shard <K/N>", "--long")),
+         "Standard input is histories or evidence: ttrun model < FILE. Standard output\n"
+         "is a script with a test case for each: ttrun explore says of it whether another\n"
+         "order of the same calls gives another verdict. --only, --failed and --last\n"
+         "choose as those of check do. Of a history that has no such script standard\n"
+         "error names the first line that none has, and says why.\n",
+         "Status: 0 if each chosen history has one; otherwise 3.\n")
 REPLAY = ("replays a list of moves, and prints each reply and the verdict\n", "  --explain     " + EXPLAIN, "  --no-explain  " + NO_EXPLAIN,
           "Standard input is a list of moves: ttrun replay < FILE. Standard output is a\n"
           "line for each reply, and then the overall verdict.\n",
@@ -115,6 +123,7 @@ HELP: List[Tuple[Tuple[str, ...], Tuple[str, ...]]] = [
     (("help", "check"), CHECK), (("check", "--help"), CHECK), (("check", "-h"), CHECK),
     (("help", "explore"), EXPLORE), (("explore", "-h"), EXPLORE),
     (("help", "report"), REPORT), (("report", "--help"), REPORT),
+    (("help", "model"), MODEL), (("model", "--help"), MODEL),
     (("help", "replay"), REPLAY), (("replay", "--help"), REPLAY), (("replay", "-h"), REPLAY),
     (("help", "serve"), SERVE), (("serve", "--help"), SERVE), (("serve", "-h"), SERVE),
 ]
@@ -124,7 +133,7 @@ HELP: List[Tuple[Tuple[str, ...], Tuple[str, ...]]] = [
 MISTAKES = """\
 a value is required for '{valued}' but none was supplied
     explore --states, run --only, run --only --list, run --shard, run --stop-on, run --stop-on --csv, run --stop-on --live, run --junit --suite,
-    check --script --shard, check --only, explore --only
+    check --script --shard, check --only, explore --only, model --only
 one of the arguments '--text', '--csv', '--junit', '--html' and '--summary' is needed
     report, report --, report --explain, report --suite a, report --only a, report --failed, report --script --only a
 the argument '--suite' needs '--junit'
@@ -138,7 +147,7 @@ the arguments '--shard', and '--only' with '--html', need '--script'
     report --shard 1/2
 the argument '{twice}' cannot be used multiple times
     run --junit --suite a --suite b, report --summary --summary, check --explain --explain, check --no-explain --no-explain, check --script --script,
-    check --script --shard 1/2 --shard 1/2, check --long --long, check --failed --failed, check --last --last, explore --details --details,
+    model --last --last, model --failed --only a --failed, check --script --shard 1/2 --shard 1/2, check --long --long, check --failed --failed, check --last --last, explore --details --details,
     explore --locals --locals,
     explore --history --history, explore --states 1 --states 1, report --csv --csv, report --html --html, report --failed --failed --csv,
     report --junit --junit, run --csv --csv, run --evidence --evidence, run --failed --failed, explore --shard 1/2 --shard 1/2,
@@ -150,7 +159,7 @@ unrecognized subcommand '{last}'
     '', Run, chec, frobnicate, help a.script, help more, help run check, list, repla, version
 unexpected argument '{last}' found
     check --summary, run --summary, -- run, --csv, --explain, --frobnicate, --junit, --list, --live, --progress, -x, check --csv, check --evidence,
-    check --html, check --junit, check --live, check --progress, check --times, check more, explore --csv, explore --progress, explore --times, explore more,
+    model --script, model --long, model --shard, model more, model --csv, check --html, check --junit, check --live, check --progress, check --times, check more, explore --csv, explore --progress, explore --times, explore more,
     replay --list, replay --live, replay more, report --evidence, report --history, report --live, report --junit --times, report more, serve --explain, serve --no-explain,
     serve --evidence, serve --history, serve more, run '', run -, run -- --csv, run -- --live, report --chart, run --chart, run --cs, run --x.y,
     run --a/b, run --csv check, run --details, run --html, run --liv, run --live more, run --only a b, run --version, run -V, run -c, run check,
@@ -180,7 +189,7 @@ csv summary: report --csv --summary
 html summary: report --summary --html
 junit summary: report --summary --junit --suite a
 explain no-explain: check --explain --no-explain, check --no-explain --script --explain, report --explain --junit --no-explain,
-    run --no-explain --explain, run --explain --list --no-explain, replay --explain --no-explain, explore --explain --no-explain
+    model --no-explain --only a --explain, run --no-explain --explain, run --explain --list --no-explain, replay --explain --no-explain, explore --explain --no-explain
 script failed: check --failed --script, report --csv --script --failed
 history details: explore --details --history, explore --locals --details --history, explore --history --states=1 --details
 history locals: explore --locals --history
@@ -288,7 +297,8 @@ NAMELESS: List[Tuple[str, Tuple[str, ...]]] = [
              "run --stop-on no --shard 3/2")),
     (SUITE, ("run --junit --suite=", "run --junit --suite 1", "run --suite a-b --junit", "report --junit --suite all",
              "report --junit --script --suite " + "a" * 33)),
-    (ONLY, ("run --only=", "run --list --only all", "run --only a --only 2b", "run --stop-on no --only 1")),
+    (ONLY, ("run --only=", "run --list --only all", "run --only a --only 2b", "run --stop-on no --only 1",
+            "model --only=", "model --last --only all")),
 ]
 
 # How the text about refused words ends.
@@ -302,21 +312,21 @@ FILES = ("examples/workers.script", "campaign.txt", "./run", "../script", "run/"
 
 # A file's name after a subcommand.
 GIVEN_FILES = ("run campaign.txt", "run --csv ./a.script", "run --list -- a.script", "check run.history", "check --script a/run.history",
-               "report --junit run/x", "explore --states 7 a.b", "replay moves/a", "serve x.y", "run a.script more")
+               "report --junit run/x", "explore --states 7 a.b", "model last.evidence", "replay moves/a", "serve x.y", "run a.script more")
 
 # Of these words the last is not expected, and is no file's name; the one before is the value of an option.
 NO_FILES = ("run --stop-on a.b more", "run --only a/b more")
 
 # Words that are nearly a subcommand, and words that are not.
 NEARLY = (("rnu", "run"), ("Run", "run"), ("runn", "run"), ("chec", "check"), ("repla", "replay"), ("exlpore", "explore"),
-          ("reprot", "report"), ("srve", "serve"), ("RuN", "run"))
+          ("reprot", "report"), ("modle", "model"), ("srve", "serve"), ("RuN", "run"))
 NOT_NEARLY = ("list", "version", "frobnicate", "RUN", "help list", "help more")
 
 # Options that ask for nothing, and the subcommand whose usage is shown.
 USAGES = (("run --csv --junit", "run"), ("run --no-explain --explain", "run"), ("explore --details --history", "explore"), ("report", "report"),
           ("report --csv --html", "report"), ("report --html --only a", "report"), ("check --shard 1/2", "check"), ("check --script --failed", "check"),
           ("report --csv --suite a", "report"), ("run --suite a", "run"),
-          ("check --no-explain --explain", "check"))
+          ("check --no-explain --explain", "check"), ("model --explain --no-explain", "model"))
 
 NOT_UTF8: List[Tuple[str, Tuple[Word, ...]]] = [
     ("a_word_that_is_not_utf8", (b"\xff",)),
@@ -351,7 +361,7 @@ def of_explore() -> Iterator[Case]:
 
 def faults_of_wide_help(program: str) -> List[str]:
     """The help of the program and of each subcommand fits a terminal of 80 columns."""
-    lines = [(name, line) for name in ("", "run", "serve", "explore", "check", "report", "replay")
+    lines = [(name, line) for name in ("", "run", "serve", "explore", "check", "report", "model", "replay")
              for line in answer(program, b"", *name.split(), "--help").output.decode().splitlines()]
     faults = [f"{name}: {len(line)} columns: {line}" for name, line in lines if len(line) > 78]
     return faults + ([] if len(lines) > 100 else [f"{len(lines)} lines"])

@@ -24,7 +24,8 @@ subcommand_named name =
     else (if bytes_eq name (codes "replay") then Subcommand.Replay
     else (if bytes_eq name (codes "explore") then Subcommand.Explore
     else (if bytes_eq name (codes "report") then Subcommand.Report
-    else (if bytes_eq name (codes "serve") then Subcommand.Serve else Subcommand.Run))))
+    else (if bytes_eq name (codes "model") then Subcommand.Model
+    else (if bytes_eq name (codes "serve") then Subcommand.Serve else Subcommand.Run)))))
 
 -- the subcommand and its options; no subcommand is `run` without options
 abbrev pub command_line_of : Option (Text × List Row) → Subcommand × List Row
@@ -35,6 +36,7 @@ command_line_of (Some p) = (subcommand_named p.0, p.1)
 abbrev pub reads_histories : Subcommand → Bool
 reads_histories Subcommand.Check = true
 reads_histories Subcommand.Report = true
+reads_histories Subcommand.Model = true
 reads_histories subcommand = false
 
 -- the form that the options of `run` ask for
@@ -117,6 +119,7 @@ pub record AsksExplore (at_terminal : Bool) (rows : List Row) (o : ExploreOption
 abbrev pub Asks : Bool → Subcommand × List Row → Task → Type 0
 Asks at (Subcommand.Check, rows) (Task.Check c explains) = (is_given rows (codes "script") ≡ false) × AsksFor at rows c explains
 Asks at (Subcommand.Check, rows) (Task.Compare None c explains) = (is_given rows (codes "script") ≡ true) × AsksFor at rows c explains
+Asks at (Subcommand.Model, rows) (Task.Model c explains) = AsksFor at rows c explains
 Asks at (Subcommand.Replay, rows) (Task.Replay explains) = explains ≡ is_explained at rows
 Asks at (Subcommand.Report, rows) (Task.Report f c explains) = (is_given rows (codes "script") ≡ false) × (report_form_of rows ≡ Some f) × AsksFor at rows c explains
 Asks at (Subcommand.Report, rows) (Task.Compare (Some f) c explains) = (is_given rows (codes "script") ≡ true) × (report_form_of rows ≡ Some f) × AsksFor at rows c explains

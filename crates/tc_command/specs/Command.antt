@@ -53,15 +53,19 @@ report = fold with_rule (new_app (codes "report")) (
     flag_rule (codes "text") ∷ flag_rule (codes "csv") ∷ flag_rule (codes "junit") ∷ word_rule (codes "suite") ∷ flag_rule (codes "html")
     ∷ flag_rule (codes "summary") ∷ choosing)
 
+-- the options of `model`: which histories, and whether a fault is explained
+abbrev pub model : App
+model = fold with_rule (new_app (codes "model")) (words_rule (codes "only") ∷ flag_rule (codes "failed") ∷ flag_rule (codes "last") ∷ explaining)
+
 -- a command that prints its version
 abbrev pub with_version : App → App
 with_version app = record app { top = record app.top { has_version = true } }
 
--- the program's command prints its version, and has these six subcommands, of which `serve` has no option
+-- the program's command prints its version, and has these seven subcommands, of which `serve` has no option
 abbrev pub ttrun : App
 ttrun =
     fold (λ app sub. with_subcommand app sub.top) (with_version (new_app (codes "ttrun")))
-    (run ∷ new_app (codes "serve") ∷ explore ∷ fold with_rule (new_app (codes "check")) choosing ∷ report
+    (run ∷ new_app (codes "serve") ∷ explore ∷ fold with_rule (new_app (codes "check")) choosing ∷ report ∷ model
     ∷ fold with_rule (new_app (codes "replay")) explaining ∷ [])
 
 -- the command of a program with test cases of its own prints its version too, and has the options of their run

@@ -2,7 +2,7 @@
 use Rattle.std.specs.{Prelude.{◌≡◌, ◌<◌, ◌+◌, ◌^◌, ◌∷◌, ◌++◌, [], Bool, List, codes, false, fold, ◌||◌}, Fmt.decimal, List.list_any}
 use Rattle.tc_entry.specs.Prelude.{IsShard, ShardView}
 use Rattle.clap.specs.{Words.{App, Row, Rule, Text, app_of, kind_of, new_app, with_rule, with_subcommand}, declared.{builder.command.Command.{Command, TheViews.out-Command}, error.kind.ErrorKind.TheVariants.{ArgumentConflict, MissingRequiredArgument}}}
-use Rattle.tc_command.specs.{Asked.{Asks, HasBadWord, gives_pair, lacks_form, lacks_script, needs, option_faults}, Command.{choosing, explaining, explore, flag_rule, maybe_word_rule, report, run, word_rule, words_rule}, declared.{command.{OptionRow.OptionRow, Subcommand.Subcommand}, read.Refused.Refused, refusal.Refusal.Refusal, task.Task.Task, word.WordFault.WordFault}}
+use Rattle.tc_command.specs.{Asked.{Asks, HasBadWord, gives_pair, lacks_form, lacks_script, needs, option_faults}, Command.{choosing, explaining, explore, flag_rule, maybe_word_rule, model, report, run, word_rule, words_rule}, declared.{command.{OptionRow.OptionRow, Subcommand.Subcommand}, read.Refused.Refused, refusal.Refusal.Refusal, task.Task.Task, word.WordFault.WordFault}}
 
 -- options are refused for this reason; if memory runs out, nothing is said about them
 abbrev pub IsRefusedBy : Subcommand × List Row → Refusal → Type 0
@@ -66,6 +66,7 @@ app_of_subcommand Subcommand.Serve = new_app (codes "serve")
 app_of_subcommand Subcommand.Explore = explore
 app_of_subcommand Subcommand.Check = fold with_rule (new_app (codes "check")) choosing
 app_of_subcommand Subcommand.Report = report
+app_of_subcommand Subcommand.Model = model
 app_of_subcommand Subcommand.Replay = fold with_rule (new_app (codes "replay")) explaining
 
 -- an application with these subcommands more, in their order

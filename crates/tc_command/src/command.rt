@@ -20,6 +20,7 @@ No argument at all means run.
 Status of run, serve, replay and report: 0 for none and pass, 1 for inconc and
 fail, 2 for error.
 Status of check: 0 if each history is legal.
+Status of model: 0 if each chosen history has a model.
 Status of explore: 0 if each test case has one verdict, 1 if one has several,
 2 if one has no verdict but error.
 3 says that a test case was aborted, a history is not legal, or a search met
@@ -102,6 +103,18 @@ taken with it. After the lines of check a line says
   missing NAME       there is nothing of NAME
 Status: 0 if each history is legal, and with --script no such line is printed;
 otherwise 3.",
+);
+
+// What the help says of `model`, and at its end.
+const MODEL_HELP: (&str, &str) = (
+    "writes a script of which histories and evidence are courses",
+    "\
+Standard input is histories or evidence: ttrun model < FILE. Standard output
+is a script with a test case for each: ttrun explore says of it whether another
+order of the same calls gives another verdict. --only, --failed and --last
+choose as those of check do. Of a history that has no such script standard
+error names the first line that none has, and says why.
+Status: 0 if each chosen history has one; otherwise 3.",
 );
 
 // What the help says of `serve`, and at its end.
@@ -262,6 +275,8 @@ const CHECK_OPTIONS: [OptionRow; 8] = [
     NO_EXPLAIN,
 ];
 
+const MODEL_OPTIONS: [OptionRow; 5] = [SCRIPT_ONLY, NOT_PASSED, LAST, EXPLAIN, NO_EXPLAIN];
+
 const REPORT_OPTIONS: [OptionRow; 14] = [
     OptionRow::Flag("text", "writes the text report"),
     OptionRow::Flag("csv", "writes a table as CSV"),
@@ -350,16 +365,18 @@ pub(crate) enum Subcommand {
     Explore,
     Check,
     Report,
+    Model,
     Replay,
 }
 
 /// All of them.
-pub(crate) const SUBCOMMANDS: [Subcommand; 6] = [
+pub(crate) const SUBCOMMANDS: [Subcommand; 7] = [
     Subcommand::Run,
     Subcommand::Serve,
     Subcommand::Explore,
     Subcommand::Check,
     Subcommand::Report,
+    Subcommand::Model,
     Subcommand::Replay,
 ];
 
@@ -372,6 +389,7 @@ impl Subcommand {
             Subcommand::Explore => "explore",
             Subcommand::Check => "check",
             Subcommand::Report => "report",
+            Subcommand::Model => "model",
             Subcommand::Replay => "replay",
         }
     }
@@ -384,6 +402,7 @@ impl Subcommand {
             Subcommand::Explore => "ttrun explore",
             Subcommand::Check => "ttrun check",
             Subcommand::Report => "ttrun report",
+            Subcommand::Model => "ttrun model",
             Subcommand::Replay => "ttrun replay",
         }
     }
@@ -399,6 +418,7 @@ fn subcommand_of<'a>(alloc: Global, subcommand: Subcommand) -> Result<Command<'a
         Subcommand::Explore => offered(alloc, "explore", EXPLORE_HELP, &EXPLORE_OPTIONS),
         Subcommand::Check => offered(alloc, "check", CHECK_HELP, &CHECK_OPTIONS),
         Subcommand::Report => offered(alloc, "report", REPORT_HELP, &REPORT_OPTIONS),
+        Subcommand::Model => offered(alloc, "model", MODEL_HELP, &MODEL_OPTIONS),
         Subcommand::Replay => offered(alloc, "replay", REPLAY_HELP, &[EXPLAIN, NO_EXPLAIN]),
     }
 }

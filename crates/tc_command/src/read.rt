@@ -3,7 +3,7 @@ ghost use Rattle.std.specs.Prelude.{◌≡◌, ◌∷◌, [], All, IfOk, IfErr, 
 ghost use Rattle.std.specs.List.{list_any};
 ghost use Rattle.clap.specs.Words.{FailsBy, Row, app_of, fault_of, first_of, found_of, is_simple, is_simple_and_free, rows_of, subcommand_of, subcommand_rows_of};
 ghost use Rattle.tc_entry.specs.Prelude.{IsName, IsPattern};
-ghost use Rattle.tc_command.specs.{Asked.Asks, Asked.AsksRun, Asked.Chooses, Asked.IsReading, Asked.command_line_of, Asked.form_of, Asked.gives_pair, Asked.is_explained, Asked.is_given, Asked.lacks_form as spec_lacks_form, Asked.lacks_script as spec_lacks_script, Asked.needs as spec_needs, Asked.option_faults, Asked.option_values, Asked.report_form_of, Asked.subcommand_named as spec_named, Command.IsGood, Command.IsShardOf, Command.ttrun, Inside.IsBadWord, Inside.IsRefusedBy, Inside.IsTaken, Inside.IsWordRefused, Inside.lacks_option, declared.command.Subcommand.TheVariants.Check, declared.command.Subcommand.TheVariants.Explore, declared.command.Subcommand.TheVariants.Report, declared.command.Subcommand.TheVariants.Run, declared.read.Refused.Refused};
+ghost use Rattle.tc_command.specs.{Asked.Asks, Asked.AsksRun, Asked.Chooses, Asked.IsReading, Asked.command_line_of, Asked.form_of, Asked.gives_pair, Asked.is_explained, Asked.is_given, Asked.lacks_form as spec_lacks_form, Asked.lacks_script as spec_lacks_script, Asked.needs as spec_needs, Asked.option_faults, Asked.option_values, Asked.report_form_of, Asked.subcommand_named as spec_named, Command.IsGood, Command.IsShardOf, Command.ttrun, Inside.IsBadWord, Inside.IsRefusedBy, Inside.IsTaken, Inside.IsWordRefused, Inside.lacks_option, declared.command.Subcommand.TheVariants.Check, declared.command.Subcommand.TheVariants.Explore, declared.command.Subcommand.TheVariants.Model, declared.command.Subcommand.TheVariants.Report, declared.command.Subcommand.TheVariants.Run, declared.read.Refused.Refused};
 
 use crate::command::{Subcommand, command};
 use crate::refusal::{Lack, Refusal, told_of};
@@ -316,12 +316,23 @@ fn check_task(alloc: Global, options: &ArgMatches<'_>, at_terminal: bool) -> Res
     }
 }
 
+// What the options of `model` ask for.
+fn model_task(alloc: Global, options: &ArgMatches<'_>, at_terminal: bool) -> Result<Task, Refusal>
+    ensures taken { IfOk result (Asks at_terminal (Model, rows_of (found_of options.now))) }
+    ensures refused { IfErr result (IsWordRefused (rows_of (found_of options.now))) }
+{
+    Ok(Task::Model {
+        choice: choice(alloc, options)?,
+        explains: explains(options, at_terminal),
+    })
+}
+
 // Whether a shard is chosen, or what is on a page, and there is no script.
 fn lacks_script(subcommand: Subcommand, options: &ArgMatches<'_>) -> bool
     ensures { result ≡ spec_lacks_script subcommand (rows_of (found_of options.now)) }
 {
     match subcommand {
-        Subcommand::Check | Subcommand::Report => {
+        Subcommand::Check | Subcommand::Report | Subcommand::Model => {
             (has_option(options, "shard")
                 || (has_option(options, "only") && has_option(options, "html")))
                 && !has_option(options, "script")
@@ -352,7 +363,7 @@ fn needs(subcommand: Subcommand) -> &'static [(&'static str, &'static str)]
         ≡ list_any (gives_pair false rows) (spec_needs subcommand) }
 {
     match subcommand {
-        Subcommand::Check | Subcommand::Report => &HISTORY_NEEDS,
+        Subcommand::Check | Subcommand::Report | Subcommand::Model => &HISTORY_NEEDS,
         _ => &SCRIPT_NEEDS,
     }
 }
@@ -401,6 +412,7 @@ pub(crate) fn subcommand_task(
         Subcommand::Explore => explore_task(alloc, options, at_terminal),
         Subcommand::Report => report_task(alloc, options, at_terminal),
         Subcommand::Check => check_task(alloc, options, at_terminal),
+        Subcommand::Model => model_task(alloc, options, at_terminal),
         Subcommand::Replay => Ok(Task::Replay {
             explains: explains(options, at_terminal),
         }),
@@ -417,6 +429,7 @@ fn subcommand_named(name: &str) -> Subcommand
         "replay" => Subcommand::Replay,
         "explore" => Subcommand::Explore,
         "report" => Subcommand::Report,
+        "model" => Subcommand::Model,
         "serve" => Subcommand::Serve,
         _ => Subcommand::Run,
     }

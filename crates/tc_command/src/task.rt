@@ -141,6 +141,11 @@ pub enum Task {
         choice: Choice,
         explains: bool,
     },
+    /// Write the models of the chosen histories.
+    Model {
+        choice: Choice,
+        explains: bool,
+    },
     /// Explore the chosen test cases of a campaign.
     Explore(ExploreOptions),
 }

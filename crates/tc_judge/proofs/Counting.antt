@@ -29,46 +29,46 @@ none_placed n ns none = by (list_any (is_text n) ns) refl
         let is : Some (position_or_len (is_text n) ns) ≡ None = rw test at none in
         absurd cc
 
-module _ {K : Type 0} where
-  put_at : (j : Judged K) (js : List (Judged K)) (p : ℕ) (d : Word) → p < length (map judged_name js) → is_text j.name (get_or (map judged_name js) p d) ≡ true
-      → ((k : ℕ) → k < p → is_text j.name (get_or (map judged_name js) k d) ≡ false)
-      → (map judged_name js ≡ map judged_name (slice_set js p j)) × (slice_set js p j ≡ put judged_name js j)
-  put_at j [] p d within here before = absurd (omega (arith, within))
-  put_at j (k ∷ js) zero d within here before =
-      let same : is_text j.name k.name ≡ true = here in
-      (ap (λ (n : Word). n ∷ map judged_name js) (sym (same_word j.name k.name same)), rw same refl)
-  put_at j (k ∷ js) (suc p) d within here before =
-      let other : is_text j.name k.name ≡ false = before 0 (omega arith) in
-      let rest = put_at j js p d (omega (arith, within)) here (λ i less. before (suc i) (omega (arith, less))) in
-      (ap (λ (l : List Word). k.name ∷ l) rest.0, rw other (ap (λ (l : List (Judged K)). k ∷ l) rest.1))
+module _ {X : Type 0} (name : X → Word) where
+  put_at : (x : X) (xs : List X) (p : ℕ) (d : Word) → p < length (map name xs) → is_text (name x) (get_or (map name xs) p d) ≡ true
+      → ((k : ℕ) → k < p → is_text (name x) (get_or (map name xs) k d) ≡ false)
+      → (map name xs ≡ map name (slice_set xs p x)) × (slice_set xs p x ≡ put name xs x)
+  put_at x [] p d within here before = absurd (omega (arith, within))
+  put_at x (y ∷ xs) zero d within here before =
+      let same : is_text (name x) (name y) ≡ true = here in
+      (ap (λ (n : Word). n ∷ map name xs) (sym (same_word (name x) (name y) same)), rw same refl)
+  put_at x (y ∷ xs) (suc p) d within here before =
+      let other : is_text (name x) (name y) ≡ false = before 0 (omega arith) in
+      let rest = put_at x xs p d (omega (arith, within)) here (λ i less. before (suc i) (omega (arith, less))) in
+      (ap (λ (l : List Word). name y ∷ l) rest.0, rw other (ap (λ (l : List X). y ∷ l) rest.1))
 
-  put_new : (j : Judged K) (js : List (Judged K)) → list_any (is_text j.name) (map judged_name js) ≡ false → js ++ j ∷ [] ≡ put judged_name js j
-  put_new j [] none = refl
-  put_new j (k ∷ js) none =
-      let other = or_left (is_text j.name k.name) (list_any (is_text j.name) (map judged_name js)) none in
-      let rest = or_right (is_text j.name k.name) (list_any (is_text j.name) (map judged_name js)) none in
-      rw other (ap (λ (l : List (Judged K)). k ∷ l) (put_new j js rest))
+  put_new : (x : X) (xs : List X) → list_any (is_text (name x)) (map name xs) ≡ false → xs ++ x ∷ [] ≡ put name xs x
+  put_new x [] none = refl
+  put_new x (y ∷ xs) none =
+      let other = or_left (is_text (name x) (name y)) (list_any (is_text (name x)) (map name xs)) none in
+      let rest = or_right (is_text (name x) (name y)) (list_any (is_text (name x)) (map name xs)) none in
+      rw other (ap (λ (l : List X). y ∷ l) (put_new x xs rest))
 
-  puts_so : (ns : List Word) (js new : List (Judged K)) (j : Judged K) → ns ≡ map judged_name new → new ≡ put judged_name js j → PutsNext js j ns new
-  puts_so ns js new j names is = (names, ap length names ∙ length-map new judged_name, is)
+  puts_so : (ns : List Word) (xs new : List X) (x : X) → ns ≡ map name new → new ≡ put name xs x → PutsNext name xs x ns new
+  puts_so ns xs new x names is = (names, ap length names ∙ length-map new name, is)
 
   -- a block in the place of the one of its name
-  pub puts_in_place : (ns : List Word) (js new : List (Judged K)) (j : Judged K) (p : ℕ) → ns ≡ map judged_name js → position (is_text j.name) ns ≡ Some p
-      → new ≡ slice_set js p j → PutsNext js j ns new
-  puts_in_place ns js new j p names at is =
-      let place = position-Some (is_text j.name) (map judged_name js) p [] (ap (position (is_text j.name)) (sym names) ∙ at) in
-      let both = put_at j js p [] place.0 place.1 place.2 in
-      puts_so ns js new j (names ∙ (both.0 ∙ ap (map judged_name) (sym is))) (is ∙ both.1)
+  pub puts_in_place : (ns : List Word) (xs new : List X) (x : X) (p : ℕ) → ns ≡ map name xs → position (is_text (name x)) ns ≡ Some p
+      → new ≡ slice_set xs p x → PutsNext name xs x ns new
+  puts_in_place ns xs new x p names at is =
+      let place = position-Some (is_text (name x)) (map name xs) p [] (ap (position (is_text (name x))) (sym names) ∙ at) in
+      let both = put_at x xs p [] place.0 place.1 place.2 in
+      puts_so ns xs new x (names ∙ (both.0 ∙ ap (map name) (sym is))) (is ∙ both.1)
 
   -- and one of a new name at the end
-  pub puts_at_end : (ns ms : List Word) (js new : List (Judged K)) (j : Judged K) → ns ≡ map judged_name js → position (is_text j.name) ns ≡ None
-      → ms ≡ add j.name ns → new ≡ js ++ j ∷ [] → PutsNext js j ms new
+  pub puts_at_end : (ns ms : List Word) (xs new : List X) (x : X) → ns ≡ map name xs → position (is_text (name x)) ns ≡ None
+      → ms ≡ add (name x) ns → new ≡ xs ++ x ∷ [] → PutsNext name xs x ms new
   unfolding among
-  puts_at_end ns ms js new j names at added is =
-      let none = none_placed j.name ns at in
-      let more : add j.name ns ≡ ns ++ j.name ∷ [] = rw none refl in
-      puts_so ms js new j (added ∙ (more ∙ (ap (λ l. l ++ j.name ∷ []) names ∙ (sym (map-append judged_name js (j ∷ [])) ∙ ap (map judged_name) (sym is)))))
-      (is ∙ put_new j js (subst (λ l. list_any (is_text j.name) l ≡ false) names none))
+  puts_at_end ns ms xs new x names at added is =
+      let none = none_placed (name x) ns at in
+      let more : add (name x) ns ≡ ns ++ name x ∷ [] = rw none refl in
+      puts_so ms xs new x (added ∙ (more ∙ (ap (λ l. l ++ name x ∷ []) names ∙ (sym (map-append name xs (x ∷ [])) ∙ ap (map name) (sym is)))))
+      (is ∙ put_new x xs (subst (λ l. list_any (is_text (name x)) l ≡ false) names none))
 
 module _ {K : Type 0} (keeps : Block → K → Type 0) where
   put_judged : (b : Block) (j : Judged K) (bs : List Block) (js : List (Judged K)) → IsJudgedBlock keeps b j → AllZip (IsJudgedBlock keeps) bs js

@@ -13,7 +13,9 @@ use indexmap::IndexSet;
 use std::alloc::Global;
 use std::io::Read;
 use tc_answer::{HISTORY_LIMIT, RunFault, of_input};
-use tc_blocks::{Header, Limit, Line, TakesEvidence, read_evidence_from, read_evidence_into};
+use tc_blocks::{
+    Block, Header, Limit, Line, TakesEvidence, read_evidence_from, read_evidence_into,
+};
 use tc_command::Choice;
 use tc_entry::Name;
 use tc_report::Said;
@@ -31,6 +33,33 @@ pub(crate) struct Judged<K: Drop> {
     pub(crate) judgement: Judgement,
     /// What is kept of it.
     pub(crate) kept: K,
+}
+
+/// What has the name of a test case.
+pub trait Named {
+    ghost use Rattle.tc_reader.specs.Prelude.{Word};
+
+    ghost name_in: { Self → Word };
+
+    /// The name.
+    fn name(&self) -> Name
+        ensures { result ≡ name_in self.now };
+}
+
+impl Named for Block {
+    ghost name_in = { λ b. b.header.name };
+
+    fn name(&self) -> Name {
+        self.header.name.copy()
+    }
+}
+
+impl<K: Drop> Named for Judged<K> {
+    ghost name_in = { judged_name };
+
+    fn name(&self) -> Name {
+        self.name.copy()
+    }
 }
 
 /// The judgement of the first block that is not legal, if there is one.
@@ -176,27 +205,28 @@ fn place_among(names: &IndexSet<Name>, name: &Name) -> Option<usize>
 }
 
 // Puts the block in the place of the one of its name, or at the end. These are the names of the others.
-fn put<K: Drop>(
+fn put<B: Named + Drop>(
     names: &mut IndexSet<Name>,
-    blocks: &mut Vec<Judged<K>>,
-    block: Judged<K>,
+    blocks: &mut Vec<B>,
+    block: B,
 ) -> Result<(), NoMemory>
-    requires names { names.old.keys ≡ map judged_name blocks.old.items }
+    requires names { names.old.keys ≡ map B.name_in blocks.old.items }
     requires even { length names.old.keys ≡ length blocks.old.items }
-    ensures { OnOk result (PutsNext blocks.old.items block names.new.keys blocks.new.items) }
+    ensures { OnOk result (PutsNext B.name_in blocks.old.items block names.new.keys blocks.new.items) }
 {
-    if let Some(place) = place_among(names, &block.name) {
+    let name = block.name();
+    if let Some(place) = place_among(names, &name) {
         blocks[place] = block;
         return Ok(());
     }
-    add_name(names, &block.name)?;
+    add_name(names, &name)?;
     blocks.push(block)?;
     Ok(())
 }
 
 // Of the blocks the last of each name, in the place of the first.
-fn last_of<K: Drop>(alloc: Global, blocks: Vec<Judged<K>>) -> Result<Vec<Judged<K>>, NoMemory>
-    ensures { IfOk result (λ v. v.items ≡ that_count judged_name true blocks.items) }
+fn last_of<B: Named + Drop>(alloc: Global, blocks: Vec<B>) -> Result<Vec<B>, NoMemory>
+    ensures { IfOk result (λ v. v.items ≡ that_count B.name_in true blocks.items) }
 {
     let mut names = IndexSet::new(alloc);
     let mut last = Vec::new(alloc);
@@ -206,13 +236,13 @@ fn last_of<K: Drop>(alloc: Global, blocks: Vec<Judged<K>>) -> Result<Vec<Judged<
     Ok(last)
 }
 
-// The blocks that count.
-fn counted<K: Drop>(
+/// The blocks that count: all, or the last of each name.
+pub fn counted<B: Named + Drop>(
     alloc: Global,
     last: bool,
-    blocks: Vec<Judged<K>>,
-) -> Result<Vec<Judged<K>>, NoMemory>
-    ensures { IfOk result (λ v. v.items ≡ that_count judged_name last blocks.items) }
+    blocks: Vec<B>,
+) -> Result<Vec<B>, NoMemory>
+    ensures { IfOk result (λ v. v.items ≡ that_count B.name_in last blocks.items) }
 {
     if last {
         last_of(alloc, blocks)

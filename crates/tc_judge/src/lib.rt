@@ -13,6 +13,8 @@ mod text;
 
 pub use check::{check_input, check_text};
 pub use compare::{compare_text, report_compared};
+pub use judged::{Named, counted};
+pub use lines::{is_picked, patterns_match};
 pub use passed::cases_to_run;
 pub use playing::play_short;
 pub use report::{is_of_judged, report_input, report_text};

@@ -6,7 +6,7 @@ ghost use Rattle.tc_text.specs.Prelude.{reply_text};
 ghost use Rattle.tc_rules.specs.Prelude.{matches, name_of};
 ghost use Rattle.tc_judge.specs.{Check.legal_line, Inside.first_illegal as spec_first, Inside.gives_text, Inside.illegal_line, Inside.is_picked as spec_picked, Inside.judged_name, Inside.line_by, Inside.made_line, Inside.printed};
 
-use crate::judged::{Judged, first_illegal};
+use crate::judged::{Judged, Named, first_illegal};
 use crate::playing::Judgement;
 use std::alloc::Global;
 use tc_answer::{append_place, is_asked};
@@ -18,22 +18,22 @@ use tc_verdict::name as name_of_verdict;
 
 /// Whether a block of this name and this verdict is picked: its name is asked for, and if only what failed is, its verdict
 /// is neither none nor pass.
-pub(crate) fn is_picked(only: &[Pattern], failed: bool, name: &Name, verdict: Verdict) -> bool
+pub fn is_picked(only: &[Pattern], failed: bool, name: &Name, verdict: Verdict) -> bool
     ensures { result ≡ spec_picked only.now failed name.now verdict }
 {
     is_asked(only, name) && !(failed && verdict_status(verdict) == 0)
 }
 
 // Whether the pattern matches the name of a block.
-fn has_block<K: Drop>(blocks: &[Judged<K>], pattern: &Pattern) -> bool
-    ensures { result ≡ list_any (λ j. matches pattern.now (judged_name j)) blocks.now }
+fn has_block<B: Named>(blocks: &[B], pattern: &Pattern) -> bool
+    ensures { result ≡ list_any (λ b. matches pattern.now (B.name_in b)) blocks.now }
 {
-    blocks.iter().any(|block| pattern.matches(&block.name))
+    blocks.iter().any(|block| pattern.matches(&block.name()))
 }
 
-// Whether each of the patterns matches the name of a block.
-fn have_all<K: Drop>(blocks: &[Judged<K>], only: &[Pattern]) -> bool
-    ensures { result ≡ have_names judged_name only.now blocks.now }
+/// Whether each of the patterns matches the name of a block.
+pub fn patterns_match<B: Named>(blocks: &[B], only: &[Pattern]) -> bool
+    ensures { result ≡ have_names B.name_in only.now blocks.now }
 {
     only.iter().all(|pattern| has_block(blocks, pattern))
 }
@@ -42,7 +42,7 @@ fn have_all<K: Drop>(blocks: &[Judged<K>], only: &[Pattern]) -> bool
 pub(crate) fn name_blocks<K: Drop>(only: &[Pattern], blocks: &[Judged<K>]) -> bool
     ensures { result ≡ (is_some (spec_first blocks.now) || have_names judged_name only.now blocks.now) }
 {
-    first_illegal(blocks).is_some() || have_all(blocks, only)
+    first_illegal(blocks).is_some() || patterns_match(blocks, only)
 }
 
 // Appends the line of a legal block; if memory runs out, a part of it.

@@ -18,6 +18,7 @@ of_cases words (Task.Replay explains) reads = absurd reads.1
 of_cases words (Task.Check choice explains) reads = absurd reads.1
 of_cases words (Task.Compare form choice explains) reads = absurd reads.1
 of_cases words (Task.Report form choice explains) reads = absurd reads.1
+of_cases words (Task.Model choice explains) reads = absurd reads.1
 of_cases words (Task.Explore o) reads = absurd reads.1
 of_cases words Task.Serve reads = absurd reads.1
 

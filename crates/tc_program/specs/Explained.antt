@@ -12,6 +12,7 @@ asks_why (Task.Replay asked) = asked
 asks_why (Task.Check choice asked) = asked
 asks_why (Task.Compare form choice asked) = asked
 asks_why (Task.Report form choice asked) = asked
+asks_why (Task.Model choice asked) = asked
 asks_why (Task.List choice asked) = asked
 asks_why (Task.Run o) = o.explains
 asks_why (Task.Explore o) = o.explains

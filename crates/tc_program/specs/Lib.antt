@@ -6,6 +6,7 @@ pub mod Explained
 pub mod Explore
 pub mod Limits
 pub mod Made
+pub mod Model
 pub mod Program
 pub mod Replay
 pub mod Serve
@@ -32,3 +33,4 @@ pub use Rattle.tc_explored.specs.Prelude as OfExplored
 pub use Rattle.tc_answer.specs.Prelude as OfAnswer
 pub use Rattle.tc_judge.specs.Prelude as OfJudge
 pub use Rattle.tc_run.specs.Prelude as OfRun
+pub use Rattle.tc_model.specs.Prelude as OfModel

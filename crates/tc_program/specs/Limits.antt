@@ -23,6 +23,7 @@ is_long task = false
 abbrev pub text_limit : Task → ℕ
 text_limit (Task.Check choice explains) = HISTORY_LIMIT
 text_limit (Task.Report form choice explains) = HISTORY_LIMIT
+text_limit (Task.Model choice explains) = HISTORY_LIMIT
 text_limit task = if has_blocks task then HISTORY_LIMIT else SCRIPT_LIMIT
 
 -- the bytes of the input of a task

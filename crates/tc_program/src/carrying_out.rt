@@ -11,6 +11,7 @@ use crate::explore::explore_text;
 use crate::limits::text_limit;
 use crate::listing::list_text;
 use crate::made::finish;
+use crate::model::model_text;
 use crate::replaying::replay_text;
 use crate::serve::serve_input;
 use std::alloc::Global;
@@ -62,6 +63,7 @@ pub(crate) fn made_text(alloc: Global, task: &Task, text: &[u8]) -> Result<Answe
             ..
         } => report_compared(alloc, form, choice, text),
         Task::Report { form, choice, .. } => report_text(alloc, form, choice, text),
+        Task::Model { choice, .. } => model_text(alloc, choice, text),
         Task::Explore(options) => explore_text(alloc, options, text),
         Task::List { choice, .. } => list_text(alloc, choice, text),
         Task::Run(_) | Task::Serve => unreachable!(),
@@ -120,6 +122,7 @@ pub(crate) fn made_in_parts<I: Read>(
         | Task::Serve
         | Task::List { .. }
         | Task::Compare { .. }
+        | Task::Model { .. }
         | Task::Explore(_) => None,
     }
 }

@@ -25,6 +25,7 @@ fn asks_why(task: &Task) -> bool
         | Task::Check { explains, .. }
         | Task::Compare { explains, .. }
         | Task::Report { explains, .. }
+        | Task::Model { explains, .. }
         | Task::List { explains, .. } => *explains,
         Task::Run(options) => options.explains,
         Task::Explore(options) => options.explains,
@@ -109,6 +110,7 @@ fn choice_of(task: &Task) -> Option<&Choice> {
     match task {
         Task::Check { choice, .. }
         | Task::Report { choice, .. }
+        | Task::Model { choice, .. }
         | Task::Compare { choice, .. }
         | Task::List { choice, .. } => Some(choice),
         Task::Run(options) => Some(&options.choice),
@@ -120,7 +122,9 @@ fn choice_of(task: &Task) -> Option<&Choice> {
 // The names that the task chooses among: those of the blocks, or of the test cases of the script.
 fn names_in(alloc: Global, task: &Task, text: &[u8]) -> Result<Vec<Name>, RunFault> {
     match task {
-        Task::Check { .. } | Task::Report { .. } => names_of_blocks(alloc, text),
+        Task::Check { .. } | Task::Report { .. } | Task::Model { .. } => {
+            names_of_blocks(alloc, text)
+        }
         _ if has_blocks(task) => names_of_script(alloc, split_script(text).0),
         _ => names_of_script(alloc, text),
     }

@@ -12,6 +12,7 @@ pub mod laws;
 mod limits;
 mod listing;
 mod made;
+mod model;
 mod own_cases;
 mod replaying;
 mod serve;

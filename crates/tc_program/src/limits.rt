@@ -15,7 +15,8 @@ pub(crate) fn has_blocks(task: &Task) -> bool
         Task::List { choice, .. } => choice.failed,
         Task::Run(options) => options.choice.failed,
         Task::Explore(options) => options.choice.failed,
-        Task::Replay { .. } | Task::Check { .. } | Task::Report { .. } | Task::Serve => false,
+        Task::Check { .. } | Task::Report { .. } | Task::Model { .. } => false,
+        Task::Replay { .. } | Task::Serve => false,
     }
 }
 
@@ -35,7 +36,7 @@ pub(crate) fn text_limit(task: &Task) -> usize
     ensures { result ≡ spec_limit task.now }
 {
     match task {
-        Task::Check { .. } | Task::Report { .. } => HISTORY_LIMIT,
+        Task::Check { .. } | Task::Report { .. } | Task::Model { .. } => HISTORY_LIMIT,
         _ if has_blocks(task) => HISTORY_LIMIT,
         _ => SCRIPT_LIMIT,
     }

@@ -9,7 +9,7 @@ pub fn awaited_line(subcommand: Option<&str>) -> &'static str
     ensures { take 13 result.now ≡ codes "ttrun: reads " }
 {
     match subcommand {
-        Some("check" | "report") => {
+        Some("check" | "report" | "model") => {
             "ttrun: reads histories from the terminal; end them with Ctrl-D\n"
         }
         Some("serve") => {

@@ -11,6 +11,8 @@ mod checks;
 #[cfg(test)]
 mod devices;
 #[cfg(test)]
+mod models;
+#[cfg(test)]
 mod runs;
 #[cfg(test)]
 mod words;

@@ -73,6 +73,9 @@ ttrun check --script --last => check --script --last
 ttrun check --script --explain => check --script --explain
 ttrun check --script => check --script
 ttrun check --shard 2/3 --script --only b --only a => check --script --only=b --only=a --shard=2/3
+ttrun model => model
+ttrun model --last --only a* --failed --only b => model --only=a* --only=b --failed --last
+ttrun model --explain --last => model --last --explain
 ttrun replay --explain => replay --explain
 ttrun report --explain --junit => report --junit --explain
 ttrun report --explain --script --csv --only a* => report --csv --script --only=a* --explain
@@ -122,6 +125,8 @@ ttrun check --no-explain => check
 ttrun check --long => check --long --explain
 ttrun check --script => check --script --explain
 ttrun check --no-explain --script => check --script
+ttrun model => model --explain
+ttrun model --no-explain => model
 ttrun replay => replay --explain
 ttrun replay --no-explain => replay
 ttrun report --csv => report --csv --explain
@@ -253,6 +258,10 @@ fn append_task(out: &mut String, task: &Task) -> Result<(), Fail> {
         Task::Replay { explains } => append_explaining(out, "replay", *explains),
         Task::Check { choice, explains } => {
             out.push_str("check")?;
+            append_chosen(out, choice, *explains)
+        }
+        Task::Model { choice, explains } => {
+            out.push_str("model")?;
             append_chosen(out, choice, *explains)
         }
         Task::Compare {

@@ -1,0 +1,56 @@
+-- Models of the blocks that are not refused, one after the other.
+use Rattle.std.proofs.Common.{ℕ, suc, set, take, ◌++◌, ◌≡◌, ◌<◌, ◌+◌, ◌∙◌, Option, Some, None, is_some, true, List, [], ◌∷◌, length, drop, get_or, refl, sym, ap, subst, arith, drop-cons}
+use Rattle.std.proofs.lemmas.List.{take_more_set}
+use Rattle.std.specs.{List.AllZip, Option.option_map_or}
+use Rattle.tc_reader.specs.Prelude.{CampaignView, Word}
+use Rattle.tc_step.specs.Prelude.{ScriptView}
+use Rattle.tc_model.specs.{Inside.TakesModel, Models.IsModel, Models.written, declared.models.Attempt.Attempt, declared.reason.Refusal.Refusal}
+
+-- the next attempt, and those after it
+drop_next : (xs : List Attempt) (i : ℕ) (d : Attempt) → i < length xs → drop i xs ≡ get_or xs i d ∷ drop (i + 1) xs
+drop_next xs i d within =
+    let more : suc i ≡ i + 1 = omega arith in
+    drop-cons xs i d within ∙ ap (λ k. get_or xs i d ∷ drop k xs) more
+
+-- the models of the blocks from this place on are the test cases that are left, if those of all are all
+abbrev pub AreLeft : List Attempt → ℕ → CampaignView → CampaignView → Type 0
+AreLeft attempts i left all = AllZip IsModel (written (drop i attempts)) left → AllZip IsModel (written attempts) all
+
+pub left_more : (attempts : List Attempt) (i : ℕ) (a : Attempt) (old new all : CampaignView) → i < length attempts → get_or attempts i a ≡ a →
+    AreLeft attempts i old all → TakesModel a old new → AreLeft attempts (i + 1) new all
+left_more attempts i a old new all within here left takes rest =
+    left (subst (λ l. AllZip IsModel (written l) old) (sym (drop_next attempts i a within ∙ ap (λ x. x ∷ drop (i + 1) attempts) here)) (takes (drop (i + 1) attempts) rest))
+
+-- a refused block takes none
+pub takes_none : (a : Attempt) (cases : CampaignView) → is_some a.refusal ≡ true → TakesModel a cases cases
+takes_none a cases some rest are = by_refusal a.refusal some
+  where
+    by_refusal : (o : Option Refusal) → is_some o ≡ true → AllZip IsModel (option_map_or (λ r. written rest) o (a.block ∷ written rest)) cases
+    by_refusal (Some r) h = are
+    by_refusal None h = absurd cc
+
+-- any other its model
+pub takes_one : (a : Attempt) (old new : CampaignView) (c : Word × List (Word × ScriptView)) → a.refusal ≡ None → old ≡ c ∷ new → IsModel a.block c → TakesModel a old new
+takes_one a old new c none first is rest are =
+    subst (λ o. AllZip IsModel (option_map_or (λ r. written rest) o (a.block ∷ written rest)) old) (sym none)
+    (subst (λ l. AllZip IsModel (a.block ∷ written rest) l) (sym first) (is, are))
+
+pub ruleset taking_rules = (takes_none, takes_one)
+
+-- none of the attempts is written, nor is one more that is refused
+none_after : (attempts : List Attempt) (a : Attempt) → is_some a.refusal ≡ true → written attempts ≡ [] → written (attempts ++ a ∷ []) ≡ []
+none_after [] a some none = by_refusal a.refusal some
+  where
+    by_refusal : (o : Option Refusal) → is_some o ≡ true → option_map_or (λ r. []) o (a.block ∷ []) ≡ []
+    by_refusal (Some r) h = refl
+    by_refusal None h = absurd cc
+none_after (b ∷ attempts) a some none = by_refusal b.refusal (λ h. none_after attempts a some h) none
+  where
+    by_refusal : (o : Option Refusal) → (written attempts ≡ [] → written (attempts ++ a ∷ []) ≡ []) →
+        option_map_or (λ r. written attempts) o (b.block ∷ written attempts) ≡ [] →
+        option_map_or (λ r. written (attempts ++ a ∷ [])) o (b.block ∷ written (attempts ++ a ∷ [])) ≡ []
+    by_refusal (Some r) more h = more h
+    by_refusal None more h = absurd cc
+
+pub none_more : (xs : List Attempt) (i : ℕ) (a : Attempt) → i < length xs → is_some a.refusal ≡ true → written (take i xs) ≡ [] → written (take (i + 1) (set xs i a)) ≡ []
+none_more xs i a within some none = ap written (take_more_set xs i a within) ∙ none_after (take i xs) a some none

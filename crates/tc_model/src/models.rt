@@ -1,0 +1,123 @@
+//! The models of blocks.
+ghost use Rattle.std.specs.Prelude.{◌≡◌, ◌++◌, [], IfOk, OnOk, is_some, map};
+ghost use Rattle.std.specs.List.{flat_map};
+ghost use Rattle.tc_model.specs.Models.{AreModels, attempt_note, written};
+
+use crate::certified::are_spelled;
+use crate::following::follow;
+use crate::naming::{add_distinct, name_runs};
+use crate::reason::{Reason, Refusal, append_refusal};
+use crate::writing::append_case;
+use indexmap::IndexSet;
+use std::alloc::Global;
+use tc_blocks::Block;
+use tc_entry::{Name, NoMemory, is_behaviours};
+use tc_reader::TEST_CASES;
+
+/// The models of blocks: what came of each block, and the script of the models.
+#[derive(Drop)]
+pub struct Models {
+    pub attempts: Vec<Attempt>,
+    pub text: Vec<u8>,
+}
+
+/// A block, and why it has no model, if it has none.
+#[derive(Drop)]
+pub struct Attempt {
+    pub block: Block,
+    pub refusal: Option<Refusal>,
+}
+
+// A refusal of a whole block.
+fn of_block(block: &Block, reason: Reason) -> Refusal {
+    Refusal {
+        line: block.first_line,
+        reason,
+    }
+}
+
+// Appends the model of the block and adds the name of its test case, or says why it has none.
+fn append_model(
+    alloc: Global,
+    text: &mut Vec<u8>,
+    cases: &mut IndexSet<Name>,
+    block: &Block,
+) -> Result<Option<Refusal>, NoMemory> {
+    if cases.len() >= TEST_CASES {
+        return Ok(Some(of_block(block, Reason::ManyCases)));
+    }
+    if !is_behaviours(usize::from(block.header.behaviours)) {
+        return Ok(Some(of_block(block, Reason::ManyBehaviours)));
+    }
+    let mut runs = match follow(alloc, block)? {
+        Ok(runs) => runs,
+        Err(refusal) => return Ok(Some(refusal)),
+    };
+    name_runs(alloc, runs.as_mut_slice())?;
+    add_distinct(alloc, cases, block.header.name.copy())?;
+    if let Some(name) = cases.as_slice().last() {
+        let lines = block.lines.as_slice();
+        append_case(text, name, runs.as_slice(), lines)?;
+    }
+    Ok(None)
+}
+
+// Each block with what came of it, and the script of the models.
+fn attempt_all(alloc: Global, blocks: Vec<Block>) -> Result<Models, NoMemory>
+    ensures { IfOk result (λ m. map (λ t. t.block) m.attempts.items ≡ blocks.items) }
+{
+    let mut attempts = Vec::new(alloc);
+    let mut text = Vec::new(alloc);
+    let mut cases = IndexSet::new(alloc);
+    for block in blocks {
+        let refusal = append_model(alloc, &mut text, &mut cases, &block)?;
+        attempts.push(Attempt { block, refusal })?;
+    }
+    Ok(Models { attempts, text })
+}
+
+// Refuses all.
+fn refuse_all(attempts: &mut [Attempt])
+    ensures blocks { map (λ t. t.block) attempts.new ≡ map (λ t. t.block) attempts.old }
+    ensures none { written attempts.new ≡ [] }
+{
+    for attempt in attempts.iter_mut() {
+        let other = of_block(&attempt.block, Reason::NotRead);
+        attempt.refusal = Some(attempt.refusal.unwrap_or(other));
+    }
+}
+
+/// The models of blocks: a script of which each block that is not refused is a complete course. It is read again as a
+/// whole.
+pub fn models_of(alloc: Global, blocks: Vec<Block>) -> Result<Models, NoMemory>
+    ensures blocks { IfOk result (λ m. map (λ t. t.block) m.attempts.items ≡ blocks.items) }
+    ensures models { IfOk result (λ m. AreModels m.text.items (written m.attempts.items)) }
+{
+    let mut models = attempt_all(alloc, blocks)?;
+    if !are_spelled(alloc, models.attempts.as_slice(), models.text.as_slice())? {
+        refuse_all(models.attempts.as_mut_slice());
+        models.text.clear();
+    }
+    Ok(models)
+}
+
+// Appends the line for a block, if it has no model; if memory runs out, a part of it.
+fn append_note(out: &mut Vec<u8>, attempt: &Attempt) -> Result<(), NoMemory>
+    ensures { OnOk result (out.new.items ≡ out.old.items ++ attempt_note attempt.now) }
+{
+    match attempt.refusal {
+        Some(refusal) => append_refusal(out, &attempt.block.header.name, refusal),
+        None => Ok(()),
+    }
+}
+
+/// The lines for the blocks that have no model.
+pub fn notes_of(alloc: Global, attempts: &[Attempt]) -> Result<Vec<u8>, NoMemory>
+    ensures { IfOk result (λ v. v.items ≡ flat_map attempt_note attempts.now) }
+{
+    let mut out = Vec::new(alloc);
+    for attempt in attempts {
+        append_note(&mut out, attempt)?;
+    }
+    Ok(out)
+}

@@ -1,0 +1,139 @@
+"""Histories with the script that `model` writes of each, or the first line that has none.
+
+The evidence of random test cases is a course of their models by `check --script`, and `explore` finds its verdict."""
+import random
+from collections import Counter
+from typing import Dict, Iterator, List, Tuple, Union
+
+from case import Case, Judgement, answer, as_lines, below, refused, shown_with
+from random_courses import drawn_campaign, verdicts_in
+from rows import ONLY, text
+from script_reader import TestCase
+from texts import Block, legal_blocks
+
+BATCHES = 8
+CASES = 250
+
+# Name, the histories, and the script that is written of them.
+MODELS: List[Tuple[str, str, str]] = [
+    ("one_call", "evidence 1 t 1;0 setverdict pass -> ok;0 finish -> ok;end pass", "testcase t;behaviour run_0;  setverdict pass;end;end"),
+    ("names_that_come_again", "evidence 1 t 256;behaviour 0 main;behaviour 1 phone;behaviour 2 phone;0 create named left -> made 1;0 create alive -> made 2;"
+     "0 start 1 1 -> ok;0 start 2 2 -> ok;1 running 2 -> true;1 # hello;1 finish -> ok;0 wait done all -> parked;2 finish -> ok;0 wake done all -> matched;"
+     "0 finish -> ok;end none",
+     "testcase t;behaviour main;  create c1 named left;  create c2 alive;  start c1 phone c2;  start c2 phone_2;  wait done all;end;"
+     "behaviour phone c2;  running c2;end;behaviour phone_2;end;end"),
+    ("arguments_and_a_run_that_is_not_started", "evidence 1 t 3;0 create -> made 1;0 start 1 2 0 0 1 -> ok;2 stop 0 -> ok;0 finish -> ended;end none",
+     "testcase t;behaviour run_0;  create c1;  start c1 run_2 mtc mtc c1;end;behaviour run_1;end;behaviour run_2 c0 p1 c1;  stop mtc;end;end"),
+    ("test_cases_of_one_name", "history 1 t 1;0 finish -> ok;end none;history 1 t 1;0 getverdict -> none;0 finish -> ok;end none",
+     "testcase t;behaviour run_0;end;end;testcase t_2;behaviour run_0;  getverdict;end;end"),
+    ("given_through_another_run", "history 1 t 3;0 create -> made 1;0 create -> made 2;0 create -> made 3;0 start 1 1 -> ok;1 start 2 2 -> ok;2 kill 3 -> ok;"
+     "2 alive 2 -> true;2 finish -> ok;1 finish -> ok;0 finish -> ok;end none",
+     "testcase t;behaviour run_0;  create c1;  create c2;  create c3;  start c1 run_1 c2 c3;end;behaviour run_1 c2 c3;  start c2 run_2 c3;end;"
+     "behaviour run_2 c3;  kill c3;  alive self;end;end"),
+    ("a_start_that_is_refused", "history 1 t 2;0 create -> made 1;0 start 1 1 0 -> ok;0 start 1 1 -> error already-running;1 finish -> ended;end error",
+     "testcase t;behaviour run_0;  create c1;  start c1 run_1 mtc;  start c1 run_1 mtc;end;behaviour run_1 c0;end;end"),
+    ("a_start_of_the_main_behaviour", "history 1 t 1;0 create -> made 1;0 start 1 0 -> error no-behaviour;end error",
+     "testcase t;behaviour run_0;  create c1;  start c1 run_0;end;end"),
+    ("a_long_name_that_comes_again", f"history 1 {'n' * 32} 1;0 finish -> ok;end none;history 1 {'n' * 32} 1;0 finish -> ok;end none",
+     f"testcase {'n' * 32};behaviour run_0;end;end;testcase {'n' * 26}_2;behaviour run_0;end;end"),
+]
+LEGAL, OVER, CALLED = "not what the table gives", "a behaviour has not ended", "a call that no script makes here"
+GIVEN, ARGUMENTS, STEPS, CASES_OF_A_SCRIPT = "a component that the run is not given", "too many arguments", "too many steps", "too many test cases"
+FIVE = ";".join(f"0 create -> made {it}" for it in range(1, 7)) + ";0 start 1 1 -> ok;" + ";".join(f"1 running {it} -> false" for it in range(2, 7))
+
+# Name, the history, its first line that no model has, and why.
+REFUSED: List[Tuple[str, str, int, str]] = [
+    ("another_reply", "history 1 t 1;0 getverdict -> pass;0 finish -> ok;end none", 2, LEGAL),
+    ("another_verdict", "history 1 t 1;0 finish -> ok;end pass", 3, LEGAL),
+    ("a_run_that_goes_on", "history 1 t 1;0 setverdict pass -> ok;end pass", 3, OVER),
+    ("a_call_after_the_end", "history 1 t 1;0 finish -> ok;0 getverdict -> ended;end none", 3, CALLED),
+    ("a_run_that_is_not_started", "history 1 t 2;1 getverdict -> ended;0 finish -> ok;end none", 2, CALLED),
+    ("a_run_that_is_not_there", "history 1 t 1;5 getverdict -> ended;0 finish -> ok;end none", 2, CALLED),
+    ("a_wake_without_a_wait", "history 1 t 1;0 wake done all -> matched;0 finish -> ok;end none", 2, CALLED),
+    ("a_behaviour_that_is_not_there", "history 1 t 1;0 create -> made 1;0 start 1 7 -> error no-behaviour;end error", 3, CALLED),
+    ("arguments_for_the_main_behaviour", "history 1 t 1;0 create -> made 1;0 start 1 0 0 -> error no-behaviour;end error", 3, CALLED),
+    ("made_after_the_start", "history 1 t 2;0 create -> made 1;0 start 1 1 -> ok;0 create -> made 2;1 running 2 -> false;1 finish -> ok;0 finish -> ok;end none", 5, GIVEN),
+    ("made_by_another", "history 1 t 3;0 create -> made 1;0 create -> made 2;0 start 1 1 -> ok;1 create -> made 3;0 start 2 2 -> ok;2 kill 3 -> ok;2 finish -> ok;"
+     "1 finish -> ok;0 finish -> ok;end none", 7, GIVEN),
+    ("not_there", "history 1 t 1;0 running 9 -> error no-component;end error", 2, GIVEN),
+    ("a_fifth_argument", f"history 1 t 2;{FIVE};1 finish -> ok;0 finish -> ok;end none", 13, ARGUMENTS),
+    ("the_1001st_step", f"history 1 t 1;{'0 getverdict -> none;' * 1001}0 finish -> ok;end none", 1002, STEPS),
+    ("the_1001st_test_case", ";".join(["history 1 t 1;0 finish -> ok;end none"] * 1001), 3001, CASES_OF_A_SCRIPT),
+]
+PASSED, FAILED = "history 1 a 1;0 setverdict pass -> ok;0 finish -> ok;end pass", "history 1 b 1;0 setverdict fail -> ok;0 finish -> ok;end fail"
+OF_A, OF_B = "testcase a;behaviour run_0;  setverdict pass;end;end", "testcase b;behaviour run_0;  setverdict fail;end;end"
+
+# Name, options, and what is written of a history that passed, one that failed, and another of the name of the first.
+CHOSEN: List[Tuple[str, str, str]] = [
+    ("all", "", f"{OF_A};{OF_B};{OF_A.replace('testcase a', 'testcase a_2')}"),
+    ("the_last_of_each_name", "--last", f"{OF_A};{OF_B}"),
+    ("what_failed", "--failed", OF_B),
+    ("one_name", "--only b", OF_B),
+    ("one_pattern", "--only a* --last", OF_A),
+    ("one_that_passed_of_what_failed", "--only a --failed", ""),
+]
+
+
+def called(block: Block, run: int) -> int:
+    """How many steps the run made in the block."""
+    return sum(it.caller == run and it.op.verb not in ("wake", "finish") for it in block.entries)
+
+
+def is_whole(case: TestCase, block: Block) -> bool:
+    """Whether each behaviour made all its steps, and has one start: then its model has them in any order."""
+    started = [step[2] for it in case.behaviours for step in it.steps if step[0] == "start"]
+    return len({*started}) == len(started) and all(called(block, at) == len(it.steps) for at, it in enumerate(case.behaviours))
+
+
+def lines_of_cases(output: bytes) -> Dict[str, str]:
+    return {it.split(" ")[0]: it for it in output.decode().splitlines()}
+
+
+def models_are_of_their_courses(program: str, seed: int) -> Iterator[str]:
+    """Random test cases: the evidence of each is a course of its model, and its verdict is one of those of the model. A model of all
+    steps has the verdicts of the script."""
+    chance, met = random.Random(f"models {seed}"), Counter()
+    for _ in range(BATCHES):
+        script, campaign = drawn_campaign(chance, CASES)
+        evidence = answer(program, script, "run", "--evidence").output
+        ran = answer(program, evidence, "model")
+        blocks = {it.name: it for it in legal_blocks(evidence)}
+        refused_names = [line.split(" ")[6][:-1] for line in ran.errors.decode().splitlines()]
+        if b"not read as its model" in ran.errors:
+            yield from shown_with([ran.errors.decode()], evidence.decode())
+        wanted = as_lines(*(f"unknown {it}" for it in blocks if it in refused_names))
+        compared = answer(program, ran.output + evidence, "check", "--script").output
+        if compared != answer(program, evidence, "check").output + wanted:
+            yield f"check --script: {compared.decode()}"
+        given, found = (lines_of_cases(answer(program, it, "explore").output) for it in (script, ran.output))
+        for case in campaign:
+            met["refused" if case.name in refused_names else "models"] += 1
+            if case.name in refused_names:
+                continue
+            if blocks[case.name].verdict not in verdicts_in(found[case.name]):
+                yield f"{case.name}: {blocks[case.name].verdict} is none of {found[case.name]}"
+            if is_whole(case, blocks[case.name]):
+                met["whole"] += 1
+                if found[case.name] != given[case.name]:
+                    yield f"{case.name}: of the script {given[case.name]}, of its model {found[case.name]}"
+    yield from below(met, {"models": BATCHES * CASES * 9 // 10, "whole": 500})
+
+
+def cases() -> Iterator[Union[Case, Judgement]]:
+    for name, given, script in MODELS:
+        yield Case(f"model_{name}", ("model",), text(given), text(script))
+    for name, given, line, why in REFUSED:
+        others = b"" if name != "the_1001st_test_case" else b"".join(
+            text(f"testcase {'t' if at == 1 else f't_{at}'};behaviour run_0;end;end") for at in range(1, 1001))
+        yield Case(f"no_model_{name}", ("model",), text(given), others, as_lines(f"ttrun: line {line}: no model of t: {why}"), 3)
+    for name, words, script in CHOSEN:
+        yield Case(f"models_of_{name}", ("model", *words.split()), text(f"{PASSED};{FAILED};{PASSED}"), text(script) if script else b"")
+    yield Case("a_model_next_to_a_history_that_has_none", ("model",), text(f"{PASSED};history 1 t 1;end none;{FAILED}"), text(f"{OF_A};{OF_B}"),
+               as_lines(f"ttrun: line 6: no model of t: {OVER}"), 3)
+    yield refused("a_model_of_a_name_of_none", ("model", "--only", "c"), text(PASSED), ONLY)
+    yield refused("a_model_of_a_bad_text", ("model",), text("history 1 t 1;0 crate"), "line 2: bad entry")
+    yield refused("a_model_of_nothing", ("model",), b"", "line 1: text ends too early")
+
+
+def judgements(seed: int) -> List[Judgement]:
+    return [Judgement(f"models_are_of_their_courses_{seed}", "ttrun model < (evidence of random scripts)", models_are_of_their_courses, (seed,))]
