@@ -111,6 +111,10 @@ struct Result {
 
     // The maker of the verdict and why, what was thrown, the local verdicts, and the last entries.
     std::string report(std::size_t most = 20) const;
+
+    // The script of which this test case is a complete course, by `ttrun model` of this program, or of the one that a Server finds.
+    // Throws std::runtime_error, with the line and why, if there is none.
+    std::string model(const std::string& program = "") const;
 };
 
 namespace detail {
@@ -382,9 +386,27 @@ public:
         return true;
     }
 
+    // All that it writes, if it reads this first, to the end of its input.
+    std::string answer(std::string_view text) {
+        write(text, std::nullopt);
+        shutdown(in_, SHUT_WR);
+        std::string out;
+        std::array<char, 16384> chunk;
+        for (ssize_t size = 1; size > 0 || (size < 0 && errno == EINTR);)
+            if ((size = ::read(out_, chunk.data(), chunk.size())) > 0) out.append(chunk.data(), static_cast<std::size_t>(size));
+        return out;
+    }
+
     // How it ended, by its own last line.
     std::string how_it_ended() {
         if (!wait_for(grace_)) return "the server has closed its output";
+        const std::string told = last_error();
+        std::string how = WIFSIGNALED(status_) ? "signal " + std::to_string(WTERMSIG(status_)) : "status " + std::to_string(WEXITSTATUS(status_));
+        return "the server ended with " + how + (told.empty() ? "" : ": " + told);
+    }
+
+    // The last line of its standard error.
+    std::string last_error() {
         std::string told, line;
         auto end_line = [&] {  // a program that does not know the word serve says so first, and how to get help last
             if (!line.empty() && told.rfind("error: ", 0) != 0) told = line;
@@ -396,8 +418,7 @@ public:
             else line += static_cast<char>(it);
         }
         end_line();
-        std::string how = WIFSIGNALED(status_) ? "signal " + std::to_string(WTERMSIG(status_)) : "status " + std::to_string(WEXITSTATUS(status_));
-        return "the server ended with " + how + (told.empty() ? "" : ": " + told);
+        return told;
     }
 
     void kill() override {
@@ -574,9 +595,25 @@ private:
     int status_ = 0;
 };
 
+// What TTRUN or FILSKEAM_TTRUN names, or `ttrun` on the path.
+inline std::string found_program() {
+    for (const char* variable : {"TTRUN", "FILSKEAM_TTRUN"}) {
+        const char* named = std::getenv(variable);
+        if (named != nullptr && *named != 0) return named;
+    }
+    return "ttrun";
+}
+
 class Case;
 
 }  // namespace detail
+
+inline std::string Result::model(const std::string& program) const {
+    detail::Program modelling({program.empty() ? detail::found_program() : program, "model"}, Seconds(5));
+    const std::string text = modelling.answer(evidence), told = modelling.last_error();
+    if (text.empty()) throw std::runtime_error(told.empty() ? modelling.how_it_ended() : told);
+    return text;
+}
 
 inline std::string Result::local(const std::string& component) const {
     std::optional<std::string> worst;
@@ -1107,11 +1144,7 @@ public:
     // the file, if one is named.
     explicit Server(std::vector<std::string> command = {}, std::string evidence = "", Seconds grace = Seconds(5))
         : command_(std::move(command)), evidence_(std::move(evidence)), grace_(grace) {
-        for (const char* variable : {"TTRUN", "FILSKEAM_TTRUN"}) {
-            const char* named = std::getenv(variable);
-            if (command_.empty() && named != nullptr && *named != 0) command_ = {named, "serve"};
-        }
-        if (command_.empty()) command_ = {"ttrun", "serve"};
+        if (command_.empty()) command_ = {detail::found_program(), "serve"};
         start_ = [this] { return std::make_unique<detail::Program>(command_, grace_); };
         if (!evidence_.empty()) append(evidence_, "");  // a file that cannot be written is reported before a test case is run
     }

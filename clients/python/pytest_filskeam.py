@@ -1,16 +1,18 @@
 """The pytest plugin: the fixture `filskeam`, its options, and what a failed test shows."""
 import glob
 import os
-from typing import Any, Generator, Optional
+from typing import Any, Generator, Iterator, Optional, Tuple
 
 import pytest
 
-from filskeam import Result, Server
+from filskeam import NoProgram, Result, Server
 from filskeam.bench import GRACE
 from filskeam.evidence import EvidenceFile
 from filskeam.testing import LIMIT, Bench
 
 BENCH = "_filskeam"
+# The end of the name of a property that says what the order of the calls of a test case decides.
+LUCK = ".luck"
 SECONDS = {"filskeam_limit": (LIMIT, "the seconds that a test case may take if its run says nothing else"),
            "filskeam_grace": (GRACE, "the seconds that behaviours have to return after the end of their test case")}
 
@@ -18,6 +20,8 @@ SECONDS = {"filskeam_limit": (LIMIT, "the seconds that a test case may take if i
 def pytest_addoption(parser: pytest.Parser) -> None:
     group = parser.getgroup("filskeam", "test cases judged by ttrun serve")
     group.addoption("--filskeam-evidence", metavar="FILE", help="writes the evidence of all test cases to FILE")
+    group.addoption("--filskeam-luck", action="store_true", help="marks each test with a verdict that depends on the order of calls")
+    group.addoption("--filskeam-luck-fails", action="store_true", help="lets such a test fail")
     parser.addini("filskeam_program", "the program ttrun; a path is that from the root folder of the tests", default="")
     for name, (default, text) in SECONDS.items():
         parser.addini(name, f"{text} ({default:g})", default=str(default))
@@ -55,12 +59,16 @@ def pytest_configure(config: pytest.Config) -> None:
             raise pytest.UsageError(f"--filskeam-evidence: {error}") from error
 
 
+def program_of(config: pytest.Config) -> str:
+    """The program of the options; empty if they name none."""
+    program = config.getini("filskeam_program")
+    return os.path.join(config.rootpath, program) if os.path.dirname(program) else program
+
+
 @pytest.fixture(scope="session")
 def filskeam_server(request: pytest.FixtureRequest) -> Generator[Server, None, None]:
     config = request.config
-    program = config.getini("filskeam_program")
-    if os.path.dirname(program):
-        program = os.path.join(config.rootpath, program)
+    program = program_of(config)
     with Server([program, "serve"] if program else None, evidence_file(config), seconds(config, "filskeam_grace")) as server:
         yield server
 
@@ -92,10 +100,42 @@ def pytest_runtest_call(item: pytest.Item) -> None:
     hold_overlooked(getattr(item, BENCH, None))
 
 
+def luck_of(result: Result, program: str) -> str:
+    """The verdicts of the same calls in all orders, if there are several; why they are not known, if they are not."""
+    try:
+        found = result.verdicts(program)
+    except (NoProgram, ValueError) as error:
+        return f"not known: {error}"
+    return " or ".join(found) if len(found) > 1 else ""
+
+
+def luck_in(properties: Any) -> Iterator[Tuple[str, str]]:
+    """The test cases whose verdicts depend on the order of calls, or may do so, each with what is known."""
+    return ((name[:-len(LUCK)], text) for name, text in properties if name.endswith(LUCK))
+
+
 @pytest.hookimpl(hookwrapper=True)
-def pytest_runtest_makereport(item: pytest.Item) -> Generator[None, Any, None]:
-    """Shows who, why and the last entries of each test case of a test that failed. So their verdicts need no second failure."""
+def pytest_runtest_makereport(item: pytest.Item, call: Any) -> Generator[None, Any, None]:
+    """Notes the luck of each test case, if that is asked for. A test that failed shows who, why and the last entries of each, so that
+    their verdicts need no second failure."""
+    bench, fails = getattr(item, BENCH, None), item.config.getoption("--filskeam-luck-fails")
+    if bench and call.when == "call" and (fails or item.config.getoption("--filskeam-luck")):
+        found = [(f"{it.name}{LUCK}", luck_of(it.result, program_of(item.config))) for it in bench.results]
+        item.user_properties += [it for it in found if it[1]]
     outcome = yield
-    report, bench = outcome.get_result(), getattr(item, BENCH, None)
+    report = outcome.get_result()
+    several = [f"{name}: {text} in another order of calls" for name, text in luck_in(item.user_properties) if not text.startswith("not known")]
+    if several and fails and call.when == "call" and report.passed:
+        report.outcome, report.longrepr = "failed", "\n".join(several)
     if report.failed and bench:
         report.sections += [(f"filskeam: {it.name} ended with {it.verdict}", it.report()) for it in bench.results]
+
+
+def pytest_terminal_summary(terminalreporter: Any) -> None:
+    """The test cases whose verdicts depend on the order of calls."""
+    found = {(report.nodeid, *each) for reports in terminalreporter.stats.values() for report in reports
+             if getattr(report, "when", "") == "call" for each in luck_in(report.user_properties)}
+    if found:
+        terminalreporter.section("filskeam: verdicts by the order of calls")
+    for place, name, text in sorted(found):
+        terminalreporter.write_line(f"{place}: {name}: {text}")

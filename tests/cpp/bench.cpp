@@ -108,6 +108,19 @@ void whys(Server& server) {
 }
 
 // All calls, and each status of a component: not started, stopped, killed, running.
+void models(Server& server) {
+    Result result = server.run("t", alone([](Run& run) { run.set_verdict("fail"); }));
+    std::cout << result.model();
+    result.evidence.erase(result.evidence.rfind("end "));
+    for (const char* program : {"", "/nowhere/ttrun"}) {
+        try {
+            std::cout << result.model(program);
+        } catch (const std::runtime_error& error) {
+            std::cout << error.what() << "\n";
+        }
+    }
+}
+
 void calls(Server& server) {
     show(server.run("t", [](Run& run) {
         const int pump = run.create("pump", true), other = run.create();
@@ -351,7 +364,7 @@ void meets(Server& server) {
 
 int main([[maybe_unused]] int count, char** words_given) {
     const std::map<std::string, void (*)(Server&)> cases = {
-        {"raises", raises}, {"watchdog", watchdog}, {"late", late}, {"ends", ends}, {"errs", errs}, {"whys", whys}, {"calls", calls}, {"seconds", seconds}, {"waits", waits}, {"stops", stops},
+        {"raises", raises}, {"watchdog", watchdog}, {"late", late}, {"ends", ends}, {"errs", errs}, {"whys", whys}, {"models", models}, {"calls", calls}, {"seconds", seconds}, {"waits", waits}, {"stops", stops},
         {"misses", misses}, {"checks", checks}, {"stalls", stalls}, {"limits", limits}, {"words", words}, {"loses", loses}, {"random", random_cases}, {"reports", reports}, {"leaves", leaves}, {"meets", meets},
     };
     int status = 0;

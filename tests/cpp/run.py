@@ -237,6 +237,15 @@ def why_is_the_first_that_made_the_verdict(place: Place) -> str:
     return f"{len(shown)} test cases"
 
 
+def a_result_has_a_model(place: Place) -> str:
+    """The script of its calls; or it says why there is none."""
+    _, text = place.bench("models", TTRUN=place.whole_program())
+    model = "testcase t,behaviour main,  create c1 named worker,  start c1 worker mtc,  wait done c1,end,behaviour worker c0,  setverdict fail,end,end"
+    same(text.splitlines(), [*model.split(","), "ttrun: line 11: text ends too early",
+                             "/nowhere/ttrun cannot be started: No such file or directory", "status 1"])
+    return f"{len(model.split(','))} lines"
+
+
 def each_call_has_its_word(place: Place) -> str:
     """Also each status of a component at each of its phases."""
     (shown,), _ = place.bench("calls")

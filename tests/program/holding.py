@@ -82,7 +82,16 @@ class ServerRoom(Room):
 
     def program(self) -> str:
         """The server as a program that is called with the word serve."""
-        return self.write("ttrun", f'#!/bin/sh\n[ "$*" = serve ] || exit 9\nexec {shlex.join(self.command)}\n', True)
+        return self.called("exit 9", "ttrun")
+
+    def whole_program(self) -> str:
+        """The same, with the other commands of ttrun."""
+        if self.command[1:] != ["serve"]:
+            raise Skipped("the server is not the program ttrun")
+        return self.called(f'exec {shlex.quote(self.command[0])} "$@"', "whole_ttrun")
+
+    def called(self, otherwise: str, name: str) -> str:
+        return self.write(name, f'#!/bin/sh\n[ "$*" = serve ] || {otherwise}\nexec {shlex.join(self.command)}\n', True)
 
 
 def words_of_clients(about: str) -> argparse.ArgumentParser:

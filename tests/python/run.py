@@ -22,9 +22,9 @@ import kit
 import holding
 from case import lanes
 
-holding.load("document_tests", "ending_tests", "server_tests", "word_tests")
+holding.load("document_tests", "ending_tests", "model_tests", "server_tests", "word_tests")
 
-FEWEST = 54
+FEWEST = 57
 # Tests that change what the whole process has: they run one by one, after the others.
 ALONE = ("the_program_is_found",)
 # The modules of tests that a table in this process runs too, and those of their tests that are about a server.

@@ -5,6 +5,7 @@ import re
 from dataclasses import dataclass
 from typing import Dict, List, NamedTuple, Optional, Sequence, Tuple, Union
 
+from .program import asked
 from .words import told
 
 VERDICTS = ("none", "pass", "inconc", "fail", "error")
@@ -173,6 +174,20 @@ class Result:
         entries = self.evidence.splitlines()
         lines += ["evidence:" if len(entries) <= most else f"evidence, the last {most} of {len(entries)} lines:"]
         return "\n".join(lines + [f"  {it}" for it in entries[max(len(entries) - most, 0):]])
+
+    def model(self, program: str = "") -> str:
+        """The script of which this test case is a complete course, by `ttrun model`. Raises `ValueError`, with the line and why, if
+        there is none."""
+        return asked(self.evidence, "model", program=program)
+
+    def verdicts(self, program: str = "") -> List[str]:
+        """The verdicts of the same calls in all orders, by `ttrun explore`. Raises `ValueError` if there is no model, or one verdict was
+        found before the search met its limit."""
+        line = asked(self.model(program), "explore", program=program)
+        found = [it for it in line.split()[1:] if it in VERDICTS]
+        if len(found) < 2 and not line.endswith(" complete\n"):
+            raise ValueError(f"ttrun explore: {line.strip()}")
+        return found
 
 
 class EvidenceFile:

@@ -8,10 +8,12 @@ import shutil
 import subprocess
 import tempfile
 import weakref
-from typing import BinaryIO, Optional, Sequence, Tuple, cast
+from typing import TYPE_CHECKING, BinaryIO, Optional, Sequence, Tuple, cast
 
 from .errors import NoProgram
-from .evidence import Line
+
+if TYPE_CHECKING:
+    from .evidence import Line
 
 # No line of evidence is as long.
 MOST_BYTES_OF_A_LINE = 1000
@@ -27,6 +29,19 @@ def find_program() -> str:
     if found is None:
         raise NoProgram("there is no ttrun: let TTRUN name the program, or put it on the path")
     return found
+
+
+def asked(text: str, *words: str, program: str = "") -> str:
+    """What the program prints for these arguments and this input. Raises `ValueError` with its last line on standard error, if that is
+    why it prints nothing."""
+    command = [program or find_program(), *words]
+    try:
+        ran = subprocess.run(command, input=text, capture_output=True, encoding="latin-1", check=False)
+    except OSError as error:
+        raise NoProgram(f"{command[0]} cannot be started: {error.strerror}") from error
+    if not ran.stdout:
+        raise ValueError((ran.stderr.splitlines() or [f"{' '.join(command)} ended with status {ran.returncode}"])[-1])
+    return ran.stdout
 
 
 class Program:
