@@ -3,7 +3,7 @@ import { $, counted } from "../app.mjs";
 import { MOST_BYTES } from "../reading.mjs";
 import { judge, state } from "./judging.mjs";
 import { setText } from "./editor.mjs";
-const MOST_SHOWN = 1500000, MOST_LINES = 200000, OWN = "your text";  // letters and lines in the editor
+const MOST_SHOWN = 1500000, MOST_LINES = 200000, OWN = "your text", MODEL = "the model";  // letters and lines in the editor
 const examples = JSON.parse($("#examples").textContent);
 let own = null, opened = 0;  // the user's last text, as `take` takes it; how many files were opened
 // Says what happened to what was given, until something else is.
@@ -65,5 +65,12 @@ export function pasted(event) {
   event.preventDefault();
   notice("");
   takeOwn({ text });
+}
+// Takes the models of the histories that are there, which can be chosen again.
+export function takeModel(text) {
+  if (!examples[MODEL]) $("#example").add(new Option(MODEL), 0);
+  examples[MODEL] = text;
+  $("#example").value = MODEL;
+  take({ text });
 }
 export const fillExamples = () => $("#example").append(...Object.keys(examples).map(name => new Option(name)));

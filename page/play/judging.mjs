@@ -128,10 +128,13 @@ export async function judge(text, input = text) {
   if (isAsked()) end();
   $("#go").textContent = task.name;
   $("#states").disabled = task !== TASKS.script;
+  $("#model").hidden = task !== TASKS.histories;
   begin(took => tell(task.says, took));
   await task.act();
   if (turn === state.turn) state.answered = turn;
 }
+// The models of the histories, or of those with the names of the ones that are shown.
+export const modelled = () => answerTo("model", ...app.panes.flatMap(({ chart }) => ["--only", chart.game.name]));
 // Ends the task that runs. If that searched for the witnesses, what was found before stays.
 export function stop() {
   state.answered = state.turn += 1;

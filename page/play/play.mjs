@@ -2,9 +2,9 @@
 import { $, app, goTo, on } from "../app.mjs";
 import { choose, find, unfold } from "../view.mjs";
 import { link, linked, setAddress } from "./address.mjs";
-import { judge, state, stop } from "./judging.mjs";
+import { judge, modelled, state, stop } from "./judging.mjs";
 import { listenToEditor, markLine } from "./editor.mjs";
-import { chooseExample, fillExamples, notice, pasted, takeFile, takeFirst, takeOwn, typed } from "./given.mjs";
+import { chooseExample, fillExamples, notice, pasted, takeFile, takeFirst, takeModel, takeOwn, typed } from "./given.mjs";
 const WAIT = 250;  // ms after a key
 const STEPS = { j: 1, ArrowDown: 1, k: -1, ArrowUp: -1, PageDown: 15, PageUp: -15, Home: -Infinity, End: Infinity };
 const goToNext = step => { if (app.cases[app.last + step]) goTo(app.cases[app.last + step]); };
@@ -45,12 +45,19 @@ function drag(event) {
   document.body.classList.toggle("dragged", type === "dragover" && hasFiles);
   if (type === "drop" && dataTransfer.files.length) { leave(); takeFile(dataTransfer.files); }
 }
+// Instead of the histories comes the script of their models, which is explored. It says which have none, and why.
+async function model() {
+  const found = await modelled();
+  if (found?.output) { leave(); takeModel(found.output); }
+  if (found) notice(found.errors.trimEnd());
+}
 function listen() {
   on($("#text"), "input", () => { notice(""); if (linked() !== undefined) setAddress(""); typed(WAIT); });
   on($("#text"), "paste", pasted);
   on($("#example"), "change", () => { leave(); chooseExample(); });
   for (const [button, type] of [["#go", "click"], ["#states", "change"]]) on($(button), type, () => judge(...current()));
   on($("#stop"), "click", stop);
+  on($("#model"), "click", model);
   on($("#link"), "click", async () => notice(await link(current()[0])));
   on($("#about"), "click", () => $("#proved").showModal());
   on($("#open"), "click", () => { $("#file").value = ""; $("#file").click(); });

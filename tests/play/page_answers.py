@@ -208,6 +208,33 @@ def a_history_is_checked_and_drawn(context: Context, page: Browser) -> str:
     return "7 texts"
 
 
+def a_model_is_explored(context: Context, page: Browser) -> str:
+    """That of what is shown, by its button: of all histories, or of the one that is open. Those that have none are named, with why."""
+    opened(context, page)
+    race, other = page.js("$('#text').value"), NOTED.replace("testcase t", "testcase u")
+    texts_of = [program_answer(context, ("run", "--evidence"), it.encode())[1].decode() for it in (race, other)]
+    cut = "evidence 1 cut 1\n0 setverdict pass -> ok\nend pass\n"
+    hold(page.js("$('#model').hidden"), "a script has a model")
+    for shown, words in (("", ()), ("#/1", ("--only", "u"))):
+        text = "".join([*texts_of, cut])
+        give(page, text)
+        if shown:
+            page.go(shown)
+        page.click("#model"), page.until("$('#model').hidden"), answered(page)
+        _, output, errors = program_answer(context, ("model", *words), text.encode())
+        model = output.decode()
+        page.holds([model, True], "[$('#text').value, $('#model').hidden]")
+        page.holds(explored(context, model)[0], "looking.chips()")
+        page.holds(errors.decode().rstrip(), "$('#notice').textContent")
+        hold(bool(errors) != bool(words), errors)
+        same(choose(page, "your text"), text)
+        same(choose(page, "the model"), model)
+    give(page, cut)
+    page.click("#model"), page.until("$('#notice').textContent !== ''")
+    page.holds([cut, "no model of cut"], "[$('#text').value, $('#notice').textContent.match(/no model of cut/)[0]]")
+    return "2 models"
+
+
 def begin_long_search(page: Browser) -> None:
     """Gives a script whose search takes minutes, and waits until the page says that it searches."""
     put(page, tangled(20, 10, 10), "1000000")
@@ -331,4 +358,4 @@ def places_by_tab(page: Browser) -> int:
 
 
 TESTS = (every_example_in_each_look, two_verdicts_side_by_side, a_fault_is_marked_while_typing, a_history_is_checked_and_drawn,
-         a_search_is_told_and_stopped, a_link_holds_the_script, buttons_and_keys)
+         a_model_is_explored, a_search_is_told_and_stopped, a_link_holds_the_script, buttons_and_keys)

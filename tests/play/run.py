@@ -56,7 +56,7 @@ def it_is_of_this_version(context: Context) -> str:
 SOURCES = (it_is_made_of_its_sources, it_loads_nothing, it_is_of_this_version, *making.TESTS)
 # The tests of the sources, of the engine and of the page, and the fewest of each.
 GROUPS = [({it.__name__: it for it in tests}, fewest) for tests, fewest in (
-    (SOURCES, 7), (beside.TESTS, 8), ((*page_answers.TESTS, *page_misuse.TESTS), 14))]
+    (SOURCES, 7), (beside.TESTS, 8), ((*page_answers.TESTS, *page_misuse.TESTS), 15))]
 
 
 def within(made: ContextManager, test: Callable[[Context, Any], str], context: Context) -> str:
