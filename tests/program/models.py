@@ -1,18 +1,8 @@
-"""Histories with the script that `model` writes of each, or the first line that has none.
+"""Histories with the script that `model` writes of each, or the first line that has none."""
+from typing import Iterator, List, Tuple
 
-The evidence of random test cases is a course of their models by `check --script`, and `explore` finds its verdict."""
-import random
-from collections import Counter
-from typing import Dict, Iterator, List, Tuple, Union
-
-from case import Case, Judgement, answer, as_lines, below, refused, shown_with
-from random_courses import drawn_campaign, verdicts_in
+from case import Case, as_lines, refused
 from rows import ONLY, text
-from script_reader import TestCase
-from texts import Block, legal_blocks
-
-BATCHES = 8
-CASES = 250
 
 # Name, the histories, and the script that is written of them.
 MODELS: List[Tuple[str, str, str]] = [
@@ -39,6 +29,8 @@ MODELS: List[Tuple[str, str, str]] = [
 ]
 LEGAL, OVER, CALLED = "not what the table gives", "a behaviour has not ended", "a call that no script makes here"
 GIVEN, ARGUMENTS, STEPS, CASES_OF_A_SCRIPT = "a component that the run is not given", "too many arguments", "too many steps", "too many test cases"
+# Models of 81 of these are longer than a script may be, and of 80 are not.
+LONG = f"history 1 t 1;{'0 getverdict -> none;' * 1000}0 finish -> ok;end none"
 FIVE = ";".join(f"0 create -> made {it}" for it in range(1, 7)) + ";0 start 1 1 -> ok;" + ";".join(f"1 running {it} -> false" for it in range(2, 7))
 
 # Name, the history, its first line that no model has, and why.
@@ -59,6 +51,7 @@ REFUSED: List[Tuple[str, str, int, str]] = [
     ("a_fifth_argument", f"history 1 t 2;{FIVE};1 finish -> ok;0 finish -> ok;end none", 13, ARGUMENTS),
     ("the_1001st_step", f"history 1 t 1;{'0 getverdict -> none;' * 1001}0 finish -> ok;end none", 1002, STEPS),
     ("the_1001st_test_case", ";".join(["history 1 t 1;0 finish -> ok;end none"] * 1001), 3001, CASES_OF_A_SCRIPT),
+    ("the_1048577th_byte", ";".join([LONG] * 81), 80241, "too long a script"),
 ]
 PASSED, FAILED = "history 1 a 1;0 setverdict pass -> ok;0 finish -> ok;end pass", "history 1 b 1;0 setverdict fail -> ok;0 finish -> ok;end fail"
 OF_A, OF_B = "testcase a;behaviour run_0;  setverdict pass;end;end", "testcase b;behaviour run_0;  setverdict fail;end;end"
@@ -74,58 +67,13 @@ CHOSEN: List[Tuple[str, str, str]] = [
 ]
 
 
-def called(block: Block, run: int) -> int:
-    """How many steps the run made in the block."""
-    return sum(it.caller == run and it.op.verb not in ("wake", "finish") for it in block.entries)
-
-
-def is_whole(case: TestCase, block: Block) -> bool:
-    """Whether each behaviour made all its steps, and has one start: then its model has them in any order."""
-    started = [step[2] for it in case.behaviours for step in it.steps if step[0] == "start"]
-    return len({*started}) == len(started) and all(called(block, at) == len(it.steps) for at, it in enumerate(case.behaviours))
-
-
-def lines_of_cases(output: bytes) -> Dict[str, str]:
-    return {it.split(" ")[0]: it for it in output.decode().splitlines()}
-
-
-def models_are_of_their_courses(program: str, seed: int) -> Iterator[str]:
-    """Random test cases: the evidence of each is a course of its model, and its verdict is one of those of the model. A model of all
-    steps has the verdicts of the script."""
-    chance, met = random.Random(f"models {seed}"), Counter()
-    for _ in range(BATCHES):
-        script, campaign = drawn_campaign(chance, CASES)
-        evidence = answer(program, script, "run", "--evidence").output
-        ran = answer(program, evidence, "model")
-        blocks = {it.name: it for it in legal_blocks(evidence)}
-        refused_names = [line.split(" ")[6][:-1] for line in ran.errors.decode().splitlines()]
-        if b"not read as its model" in ran.errors:
-            yield from shown_with([ran.errors.decode()], evidence.decode())
-        wanted = as_lines(*(f"unknown {it}" for it in blocks if it in refused_names))
-        compared = answer(program, ran.output + evidence, "check", "--script").output
-        if compared != answer(program, evidence, "check").output + wanted:
-            yield f"check --script: {compared.decode()}"
-        given, found = (lines_of_cases(answer(program, it, "explore").output) for it in (script, ran.output))
-        for case in campaign:
-            met["refused" if case.name in refused_names else "models"] += 1
-            if case.name in refused_names:
-                continue
-            if blocks[case.name].verdict not in verdicts_in(found[case.name]):
-                yield f"{case.name}: {blocks[case.name].verdict} is none of {found[case.name]}"
-            if is_whole(case, blocks[case.name]):
-                met["whole"] += 1
-                if found[case.name] != given[case.name]:
-                    yield f"{case.name}: of the script {given[case.name]}, of its model {found[case.name]}"
-    yield from below(met, {"models": BATCHES * CASES * 9 // 10, "whole": 500})
-
-
-def cases() -> Iterator[Union[Case, Judgement]]:
+def cases() -> Iterator[Case]:
     for name, given, script in MODELS:
         yield Case(f"model_{name}", ("model",), text(given), text(script))
     for name, given, line, why in REFUSED:
-        others = b"" if name != "the_1001st_test_case" else b"".join(
-            text(f"testcase {'t' if at == 1 else f't_{at}'};behaviour run_0;end;end") for at in range(1, 1001))
-        yield Case(f"no_model_{name}", ("model",), text(given), others, as_lines(f"ttrun: line {line}: no model of t: {why}"), 3)
+        count, steps = {"the_1001st_test_case": (1000, 0), "the_1048577th_byte": (80, 1000)}.get(name, (0, 0))
+        others = (f"testcase {'t' if at == 1 else f't_{at}'};behaviour run_0;{'  getverdict;' * steps}end;end" for at in range(1, count + 1))
+        yield Case(f"no_model_{name}", ("model",), text(given), b"".join(map(text, others)), as_lines(f"ttrun: line {line}: no model of t: {why}"), 3)
     for name, words, script in CHOSEN:
         yield Case(f"models_of_{name}", ("model", *words.split()), text(f"{PASSED};{FAILED};{PASSED}"), text(script) if script else b"")
     yield Case("a_model_next_to_a_history_that_has_none", ("model",), text(f"{PASSED};history 1 t 1;end none;{FAILED}"), text(f"{OF_A};{OF_B}"),
@@ -133,7 +81,3 @@ def cases() -> Iterator[Union[Case, Judgement]]:
     yield refused("a_model_of_a_name_of_none", ("model", "--only", "c"), text(PASSED), ONLY)
     yield refused("a_model_of_a_bad_text", ("model",), text("history 1 t 1;0 crate"), "line 2: bad entry")
     yield refused("a_model_of_nothing", ("model",), b"", "line 1: text ends too early")
-
-
-def judgements(seed: int) -> List[Judgement]:
-    return [Judgement(f"models_are_of_their_courses_{seed}", "ttrun model < (evidence of random scripts)", models_are_of_their_courses, (seed,))]

@@ -35,6 +35,7 @@ reason_text Reason.NotGiven = codes "a component that the run is not given"
 reason_text Reason.ManyArguments = codes "too many arguments"
 reason_text Reason.ManyBehaviours = codes "too many behaviours"
 reason_text Reason.ManyCases = codes "too many test cases"
+reason_text Reason.LongScript = codes "too long a script"
 reason_text Reason.NotRead = codes "not read as its model"
 
 -- the line for a block of this name that has no model

@@ -1,5 +1,5 @@
 //! The models of blocks.
-ghost use Rattle.std.specs.Prelude.{◌≡◌, ◌++◌, [], IfOk, OnOk, is_some, map};
+ghost use Rattle.std.specs.Prelude.{◌≡◌, ◌≤◌, ◌++◌, [], IfOk, OnOk, is_some, length, map};
 ghost use Rattle.std.specs.List.{flat_map};
 ghost use Rattle.tc_model.specs.Models.{AreModels, attempt_note, written};
 
@@ -36,10 +36,11 @@ fn of_block(block: &Block, reason: Reason) -> Refusal {
     }
 }
 
-// Appends the model of the block and adds the name of its test case, or says why it has none.
+// Appends the model of the block to a text of at most that many bytes and adds the name of its test case, or says why it has none.
 fn append_model(
     alloc: Global,
     text: &mut Vec<u8>,
+    limit: usize,
     cases: &mut IndexSet<Name>,
     block: &Block,
 ) -> Result<Option<Refusal>, NoMemory> {
@@ -53,24 +54,30 @@ fn append_model(
         Ok(runs) => runs,
         Err(refusal) => return Ok(Some(refusal)),
     };
+    let (size, known) = (text.len(), cases.len());
     name_runs(alloc, runs.as_mut_slice())?;
     add_distinct(alloc, cases, block.header.name.copy())?;
     if let Some(name) = cases.as_slice().last() {
         let lines = block.lines.as_slice();
         append_case(text, name, runs.as_slice(), lines)?;
     }
+    if text.len() > limit {
+        text.truncate(size);
+        cases.truncate(known);
+        return Ok(Some(of_block(block, Reason::LongScript)));
+    }
     Ok(None)
 }
 
-// Each block with what came of it, and the script of the models.
-fn attempt_all(alloc: Global, blocks: Vec<Block>) -> Result<Models, NoMemory>
+// Each block with what came of it, and the script of the models, of at most that many bytes.
+fn attempt_all(alloc: Global, blocks: Vec<Block>, limit: usize) -> Result<Models, NoMemory>
     ensures { IfOk result (λ m. map (λ t. t.block) m.attempts.items ≡ blocks.items) }
 {
     let mut attempts = Vec::new(alloc);
     let mut text = Vec::new(alloc);
     let mut cases = IndexSet::new(alloc);
     for block in blocks {
-        let refusal = append_model(alloc, &mut text, &mut cases, &block)?;
+        let refusal = append_model(alloc, &mut text, limit, &mut cases, &block)?;
         attempts.push(Attempt { block, refusal })?;
     }
     Ok(Models { attempts, text })
@@ -87,14 +94,16 @@ fn refuse_all(attempts: &mut [Attempt])
     }
 }
 
-/// The models of blocks: a script of which each block that is not refused is a complete course. It is read again as a
-/// whole.
-pub fn models_of(alloc: Global, blocks: Vec<Block>) -> Result<Models, NoMemory>
+/// The models of blocks: a script of at most that many bytes, of which each block that is not refused is a complete
+/// course. It is read again as a whole.
+pub fn models_of(alloc: Global, blocks: Vec<Block>, limit: usize) -> Result<Models, NoMemory>
     ensures blocks { IfOk result (λ m. map (λ t. t.block) m.attempts.items ≡ blocks.items) }
     ensures models { IfOk result (λ m. AreModels m.text.items (written m.attempts.items)) }
+    ensures short { IfOk result (λ m. length m.text.items ≤ limit) }
 {
-    let mut models = attempt_all(alloc, blocks)?;
-    if !are_spelled(alloc, models.attempts.as_slice(), models.text.as_slice())? {
+    let mut models = attempt_all(alloc, blocks, limit)?;
+    let is_long = models.text.len() > limit;
+    if is_long || !are_spelled(alloc, models.attempts.as_slice(), models.text.as_slice())? {
         refuse_all(models.attempts.as_mut_slice());
         models.text.clear();
     }

@@ -24,6 +24,8 @@ pub enum Reason {
     ManyBehaviours,
     /// The script has as many test cases as it may have.
     ManyCases,
+    /// The script would have more bytes than it may have.
+    LongScript,
     /// What was written is not read as the models of the blocks.
     NotRead,
 }
@@ -42,6 +44,7 @@ impl Reason {
             Reason::ManyArguments => "too many arguments",
             Reason::ManyBehaviours => "too many behaviours",
             Reason::ManyCases => "too many test cases",
+            Reason::LongScript => "too long a script",
             Reason::NotRead => "not read as its model",
         }
     }

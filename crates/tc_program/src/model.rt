@@ -4,7 +4,7 @@ ghost use Rattle.tc_judge.specs.Prelude.{is_chosen};
 ghost use Rattle.tc_program.specs.Model.{AnswersBlocks, IsModelled, RefusesModel};
 
 use std::alloc::Global;
-use tc_answer::{Answer, REFUSED, RunFault};
+use tc_answer::{Answer, REFUSED, RunFault, SCRIPT_LIMIT};
 use tc_blocks::{Block, read_evidence};
 use tc_command::Choice;
 use tc_entry::{NoMemory, Sequence};
@@ -26,7 +26,7 @@ fn chosen(blocks: Vec<Block>, choice: &Choice) -> Vec<Block>
 fn answer(alloc: Global, blocks: Vec<Block>) -> Result<Answer, NoMemory>
     ensures { IfOk result (AnswersBlocks blocks.items) }
 {
-    let Models { attempts, text } = models_of(alloc, blocks)?;
+    let Models { attempts, text } = models_of(alloc, blocks, SCRIPT_LIMIT)?;
     let told = notes_of(alloc, attempts.as_slice())?;
     let status = if told.is_empty() { 0 } else { REFUSED };
     Ok(Answer {
