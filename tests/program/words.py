@@ -93,12 +93,12 @@ CHECK = ("replays histories and evidence, and says which are legal\n",
          "  missing NAME       there is nothing of NAME\n",
          "Status: 0 if each history is legal, and with --script no such line is printed;\notherwise 3.\n")
 MODEL = ("writes a script of which histories and evidence are courses\n",
-         *(f"  {option:14}{said}" for option, said in OF_HISTORIES if option not in ("--script", "--shard <K/N>", "--long")),
+         *(f"  {option:15}{said}" for option, said in OF_HISTORIES if option not in ("--script", "--shard <K/N>", "--long")),
          "Standard input is histories or evidence: ttrun model < FILE. Standard output\n"
-         "is a script with a test case for each: ttrun explore says of it whether another\n"
-         "order of the same calls gives another verdict. --only, --failed and --last\n"
-         "choose as those of check do. Of a history that has no such script standard\n"
-         "error names the first line that none has, and says why.\n",
+         "is a script with a test case for each: ttrun explore says of it whether\n"
+         "another order of the same calls gives another verdict. --only, --failed and\n"
+         "--last choose as those of check do. Of a history that has no such script\n"
+         "standard error names the first line that none has, and says why.\n",
          "Status: 0 if each chosen history has one; otherwise 3.\n")
 REPLAY = ("replays a list of moves, and prints each reply and the verdict\n", "  --explain     " + EXPLAIN, "  --no-explain  " + NO_EXPLAIN,
           "Standard input is a list of moves: ttrun replay < FILE. Standard output is a\n"

@@ -110,10 +110,10 @@ const MODEL_HELP: (&str, &str) = (
     "writes a script of which histories and evidence are courses",
     "\
 Standard input is histories or evidence: ttrun model < FILE. Standard output
-is a script with a test case for each: ttrun explore says of it whether another
-order of the same calls gives another verdict. --only, --failed and --last
-choose as those of check do. Of a history that has no such script standard
-error names the first line that none has, and says why.
+is a script with a test case for each: ttrun explore says of it whether
+another order of the same calls gives another verdict. --only, --failed and
+--last choose as those of check do. Of a history that has no such script
+standard error names the first line that none has, and says why.
 Status: 0 if each chosen history has one; otherwise 3.",
 );
 
