@@ -43,9 +43,9 @@ fn a_block_of_257_behaviours_has_no_model(rt: HostRuntime) -> Result<(), Fail> {
 fn a_model_of_too_many_bytes_is_none(rt: HostRuntime) -> Result<(), Fail> {
     let alloc = rt.alloc();
     let model = "testcase t\nbehaviour run_0\nend\nend\n";
-    let Models { attempts, text } = models_of(alloc, one_block(alloc)?, model.len())?;
+    let Models { attempts, text } = models_of(alloc, one_block(alloc)?, 35)?;
     is(&rt, "the blocks", attempts.len(), 1);
     holds(&rt, "its model", text.as_slice() == model.as_bytes());
     let wanted = b"ttrun: line 1: no model of t: too long a script\n";
-    are_refused(&rt, alloc, one_block(alloc)?, model.len() - 1, wanted)
+    are_refused(&rt, alloc, one_block(alloc)?, 34, wanted)
 }
