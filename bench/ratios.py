@@ -54,12 +54,6 @@ class Sides(NamedTuple):
     ours: List[Spent]
     theirs: List[Spent]
 
-    def ratios(self) -> List[float]:
-        return [our.milliseconds / their.milliseconds for our, their in zip(self.ours, self.theirs)]
-
-    def by_clock(self) -> float:
-        return statistics.median(our.clock / their.clock for our, their in zip(self.ours, self.theirs))
-
 
 def built(source: str, work: str) -> str:
     program = os.path.join(work, source.replace("/", "_"))
@@ -130,8 +124,9 @@ def write_landed(found: Dict[str, Found]) -> None:
 def cells(sides: Sides, found: Found) -> List[str]:
     medians = [f"{statistics.median(it.milliseconds for it in side):.2f}" for side in sides]
     peaks = [f"{max(it.mebibytes for it in side):.1f}" for side in sides]
+    by_clock = statistics.median(our.clock / their.clock for our, their in zip(*sides))
     counted = f"{found.counted:.2f}" if found.counted else ""
-    return [*medians, f"{found.ratio:.2f}", f"{found.spread:.2f}", f"{sides.by_clock():.2f}", counted, *peaks]
+    return [*medians, f"{found.ratio:.2f}", f"{found.spread:.2f}", f"{by_clock:.2f}", counted, *peaks]
 
 
 def read_words() -> argparse.Namespace:
@@ -162,7 +157,8 @@ def main() -> int:
                 return 1
             sides = timed(measure, asked.rounds, ours, theirs, path)
             counted = instructions(ours, path) / instructions(theirs, path) if asked.instructions else 0.0
-            found[name] = Found(statistics.median(sides.ratios()), spread_of(sides.ratios()), counted)
+            ratios = [our.milliseconds / their.milliseconds for our, their in zip(*sides)]
+            found[name] = Found(statistics.median(ratios), spread_of(ratios), counted)
             slower = name in before and found[name].is_slower(before[name])
             failed += slower and not asked.write
             earlier = f"{before[name].ratio:.2f}, {before[name].counted:.2f}" if name in before else ""

@@ -3,10 +3,12 @@ import argparse
 import inspect
 import os
 import shutil
+import signal
 import subprocess
 import sys
+import threading
 import time
-from contextlib import AbstractContextManager
+from contextlib import AbstractContextManager, suppress
 from dataclasses import dataclass
 from functools import partial
 from typing import Any, Callable, Dict, Iterable, Iterator, List, Mapping, Optional, Sequence, Tuple, Union
@@ -102,6 +104,34 @@ def call(words: Sequence[str], given: Union[str, bytes] = "", **how) -> Ran:
     """Calls a program with an input, and waits for its end; it gives texts if the input is one."""
     ran = subprocess.run(words, input=given, capture_output=True, text=isinstance(given, str), timeout=SECONDS, check=False, **how)
     return Ran(ran.stdout, ran.stderr, ran.returncode)
+
+
+def ended(started: subprocess.Popen, given: Optional[bytes] = b"", seconds: int = SECONDS) -> Ran:
+    """Gives the input, or with None keeps the pipe open, and waits for the program's end. One that has not ended then is killed."""
+    try:
+        if given is None:
+            started.wait(seconds)
+            return Ran(started.stdout.read(), started.stderr.read(), started.returncode)
+        output, errors = started.communicate(given, timeout=seconds)
+        return Ran(output or b"", errors or b"", started.returncode)
+    except subprocess.TimeoutExpired:
+        os.killpg(started.pid, signal.SIGKILL)
+        started.wait()
+        return Ran(b"", b"", started.returncode, is_late=True)
+
+
+def shown_at(master: int, started: subprocess.Popen, act: Callable[[bytes], object] = lambda _: None) -> bytes:
+    """What a terminal gets until the program has ended, or is killed; after each piece it acts on all that came."""
+    guard, output = threading.Timer(SECONDS, os.killpg, (started.pid, signal.SIGKILL)), b""
+    guard.start()
+    with suppress(OSError):  # which comes at the end of all that is written
+        while piece := os.read(master, 65536):
+            output += piece
+            act(output)
+    started.wait()
+    guard.cancel()
+    os.close(master)
+    return output
 
 
 def checkout(*paths: str) -> List[str]:

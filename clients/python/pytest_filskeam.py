@@ -1,4 +1,5 @@
 """The pytest plugin: the fixture `filskeam`, its options, and what a failed test shows."""
+import functools
 import glob
 import os
 from typing import Any, Generator, Iterator, Optional, Tuple
@@ -13,6 +14,7 @@ from filskeam.testing import LIMIT, Bench
 BENCH = "_filskeam"
 # The end of the name of a property that says what the order of the calls of a test case decides.
 LUCK = ".luck"
+FAIL = functools.partial(pytest.fail, pytrace=False)
 SECONDS = {"filskeam_limit": (LIMIT, "the seconds that a test case may take if its run says nothing else"),
            "filskeam_grace": (GRACE, "the seconds that behaviours have to return after the end of their test case")}
 
@@ -84,20 +86,14 @@ def filskeam(request: pytest.FixtureRequest, filskeam_server: Server) -> Generat
     bench = Bench(filskeam_server, request.node.name, seconds(request.config, "filskeam_limit"), note)
     setattr(request.node, BENCH, bench)
     yield bench
-    hold_overlooked(bench)
-
-
-def hold_overlooked(bench: Optional[Bench]) -> None:
-    """Fails a test that has not looked at a bad verdict."""
-    text = bench.overlooked() if bench else ""
-    if text:
-        pytest.fail(text, pytrace=False)
+    bench.hold_overlooked(FAIL)
 
 
 @pytest.hookimpl(trylast=True)
 def pytest_runtest_call(item: pytest.Item) -> None:
     """Comes after the test itself, if that has passed."""
-    hold_overlooked(getattr(item, BENCH, None))
+    if hasattr(item, BENCH):
+        getattr(item, BENCH).hold_overlooked(FAIL)
 
 
 def luck_of(result: Result, program: str) -> str:

@@ -5,7 +5,9 @@ The last line is 'N passed, M failed'.
 """
 import os
 import re
+import shutil
 import sys
+import tempfile
 from collections import Counter
 from typing import Callable, Dict, Iterator, List, Tuple
 
@@ -20,11 +22,10 @@ import commands as shell
 import counted
 import make
 import graph
-import layout
 import lists
 import memory
 import plain
-from harness import Answer, Skipped, call, checkout as tracked, status_of
+from harness import Answer, Skipped, call, checkout as tracked, status_of, write
 from lists import Change, Mutant, MutantList
 from script_reader import read_script
 from texts import Judged
@@ -326,6 +327,33 @@ def faults_of_edits() -> Iterator[str]:
         yield f"the gate has {len(gate)} edits, {MOST_IN_THE_GATE} at most"
 
 
+def faults_of_layout(texts: Dict[str, str]) -> Iterator[str]:
+    """The files, each with its text, that `rt fmt` changes in a copy, and what it prints if it cannot read one."""
+    if not shutil.which("rt"):
+        raise Skipped("there is no rt on the path")
+    with tempfile.TemporaryDirectory() as folder:
+        copies = {path: write(os.path.join(folder, "src", path), text) for path, text in texts.items()}
+        ran = call(["rt", "fmt"], cwd=folder)
+        yield from (f"{path} is in another layout: run `rt fmt` in its crate" for path, it in copies.items() if text_of(it) != texts[path])
+        if ran.status:
+            told = (ran.output + ran.errors).replace(f"{folder}/src/", "").splitlines()
+            yield from [it for it in told if not it.startswith("rt: formatted ")] or [f"rt fmt ended with {ran.status}"]
+
+
+def wrong_layouts() -> Iterator[str]:
+    """The files of each crate's `src`, `specs` and `proofs` in another layout than that of `rt fmt`. Without `rt` this is skipped."""
+    parts = [f"crates/{crate}/{part}" for crate in crates() for part in ("src", "specs", "proofs")]
+    return faults_of_layout({path: text_of(path) for part in parts for path in files_below(part, "")})
+
+
+def unseen_layouts() -> Iterator[str]:
+    """Files that are planted and not found, and one in the layout that is."""
+    planted = {"a/src/kept.rt": "fn it() {}\n", "a/src/wide.rt": "fn  it() {}\n", "a/proofs/cut.antt": "pub it : Bool\nit = (\n"}
+    found = [it.split()[0].rstrip(":") for it in faults_of_layout(planted)]
+    if sorted(found) != ["a/proofs/cut.antt", "a/src/wide.rt"]:
+        yield f"found are {found}"
+
+
 def other_checks() -> Iterator[str]:
     """Crates of tests whose checks are not the same functions."""
     found = {it: re.search(r"(?ms)^/// Ends the test unless what was found.*?^}.*?^}", text_of(it)) for it in tracked() if it.endswith("/checks.rt")}
@@ -386,11 +414,11 @@ def main() -> int:
         "each bug can be planted, has a name of its own, and the gate has few": faults_of_edits,
         "each public call is refused memory in turn, or made with none, or says why not": memory.unlisted,
         "no value is kept for ever, no wait is bare, and no lock is taken under itself": memory.slips,
-        "a planted wait, lock or value that is kept is found": memory.unseen_slips,
+        "a planted wait, lock or value that is kept is found": lambda: (it for it in memory.PLANTED if not list(memory.slips_in(it))),
         "no number stands for a rule that is written elsewhere": numbers,
         "the first line of each source says what it is": nameless,
-        "the files of each crate are in the layout of rt fmt": layout.differing,
-        "a planted file in another layout is found": layout.unseen,
+        "the files of each crate are in the layout of rt fmt": wrong_layouts,
+        "a planted file in another layout is found": unseen_layouts,
         "each copy of the version is the program's": lambda: call([os.path.join(TOP, "tools/version"), "--check"]).output.splitlines(),
         "all crates of tests have the same checks": other_checks,
         "the page is what its sources make": make.differing}

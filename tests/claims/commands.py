@@ -97,19 +97,15 @@ def own_options() -> List[str]:
     return sorted({*found, "--help", "--version"})
 
 
-def codes(document: Document) -> Iterator[Tuple[int, str]]:
-    for number, line, is_code in document.marked():
-        yield from ((number, it) for it in ([line] if is_code else re.findall(r"`([^`]+)`", line)))
-
-
 def no_options(documents: List[Document]) -> Iterator[str]:
     known = {*own_options(), *(it for some in OTHERS.values() for it in some)}
     seen = set()
     for document in documents:
         if document.path != "CHANGELOG.md":
-            for number, code in codes(document):
-                seen.update(OPTION.findall(code))
-                yield from (f"{document.path}:{number}: nothing takes {it}" for it in OPTION.findall(code) if it not in known)
+            for number, line, is_code in document.marked():
+                named = OPTION.findall(line if is_code else "` `".join(re.findall(r"`([^`]+)`", line)))
+                seen.update(named)
+                yield from (f"{document.path}:{number}: nothing takes {it}" for it in named if it not in known)
     if len(seen) < FEWEST_OPTIONS:
         yield f"{len(seen)} options are named, where there are no fewer than {FEWEST_OPTIONS}"
 

@@ -274,11 +274,6 @@ def slips() -> Iterator[str]:
         yield from (f"{path}: {it}" for it in slips_in(text_of(path)))
 
 
-def unseen_slips() -> Iterator[str]:
-    """What is planted, and not found."""
-    yield from (it for it in PLANTED if not list(slips_in(it)))
-
-
 def main() -> int:
     if "--plant" in sys.argv:
         found = list(missed_nowhere())

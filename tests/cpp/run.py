@@ -25,14 +25,13 @@ from typing import Dict, List, Sequence, Tuple
 
 sys.dont_write_bytecode = True
 HERE = os.path.dirname(os.path.abspath(__file__))
-sys.path.insert(0, os.path.join(os.path.dirname(HERE), "serve"))
+sys.path.insert(0, os.path.join(os.path.dirname(HERE), "program"))
 
-import evidence
 import holding
 from harness import call
-from holding import TESTS, TOP, Fault, ServerRoom, Skipped, blocks_of, hold, same, text_of
+from holding import TESTS, TOP, Fault, ServerRoom, Skipped, blocks_of, hold, legal_evidence, same, text_of, whole_block
 from table import Table
-from texts import read_move
+from texts import Block
 
 CLIENT = os.environ.get("FILSKEAM_CPP", os.path.join(TOP, "clients", "cpp"))
 README = os.path.join(CLIENT, "README.md")
@@ -82,9 +81,9 @@ class Shown:
     hung: List[str] = field(default_factory=list)
     evidence: str = ""
 
-    def block(self) -> evidence.Block:
+    def block(self) -> Block:
         """Its evidence, which must be whole and legal, with its verdict."""
-        return evidence.whole_block(self.evidence, self.verdict)
+        return whole_block(self.evidence, self.verdict)
 
 
 def shown_in(text: str) -> List[Shown]:
@@ -122,18 +121,14 @@ class Place(ServerRoom):
 
     def verdicts(self, name: str) -> List[Tuple[str, str]]:
         """The names and verdicts of the evidence in a file, which must be legal."""
-        return [(it.name, it.verdict) for it in evidence.legal_blocks(self.text(name))]
+        return [(it.name, it.verdict) for it in legal_evidence(self.text(name))]
 
 
-def ran_to(status: int, *words: str, **more: str) -> str:
+def printed(*words: str, status: int = 0, **more: str) -> str:
     """What a command prints, which must end with this status."""
     ran = subprocess.run(words, env={**os.environ, **more}, stdout=subprocess.PIPE, stderr=subprocess.STDOUT, timeout=SECONDS * 3, check=False)
     hold(ran.returncode == status, f"{words} ends with {ran.returncode}: {ran.stdout.decode()[-1500:]}")
     return ran.stdout.decode()
-
-
-def printed(*words: str, **more: str) -> str:
-    return ran_to(0, *words, **more)
 
 
 def the_examples_run(place: Place) -> str:
@@ -141,7 +136,7 @@ def the_examples_run(place: Place) -> str:
     sources = (place.write("first.cpp", blocks_of(README, "cpp")[0]), os.path.join(CLIENT, "heater.cpp"))
     for at, (source, variable) in enumerate(zip(sources, ("TTRUN", "FILSKEAM_TTRUN"))):
         program = place.build(COMPILERS[at % len(COMPILERS)], source)
-        same(ran_to(1, "sh", "-c", f"cd {place.room}; exec {program}", **{variable: place.program()}), blocks_of(README, "")[0])
+        same(printed("sh", "-c", f"cd {place.room}; exec {program}", status=1, **{variable: place.program()}), blocks_of(README, "")[0])
         same([verdict for _, verdict in place.verdicts("heater.evidence")], ["fail"] * (at + 1))
     return f"{len(sources)} examples, {len(COMPILERS)} compilers"
 
@@ -172,7 +167,7 @@ def a_project_finds_the_client(place: Place) -> str:
 
 def suite_of(place: Place, program: str) -> str:
     """Runs the suite: a wrong verdict fails and says why; verdicts are in the report, and the evidence is legal."""
-    text = ran_to(1, program, f"--gtest_output=xml:{place.path('suite.xml')}", TTRUN=place.program(), FILSKEAM_EVIDENCE=place.path("suite.evidence"))
+    text = printed(program, f"--gtest_output=xml:{place.path('suite.xml')}", status=1, TTRUN=place.program(), FILSKEAM_EVIDENCE=place.path("suite.evidence"))
     same(re.findall(r"(?m)^\[  FAILED  \] (\S+) \(", text), ["Heater.fails", "Heater.hangs"])
     hold("why: run 0 main on mtc: setverdict fail: too hot\n" in text and "\nthe test case took longer than it may\n" in text, text)
     same(re.findall(r'<property name="verdict" value="(\w+)"', place.text("suite.xml")), ["pass", "fail", "fail", "error", "pass"])
@@ -183,7 +178,7 @@ def suite_of(place: Place, program: str) -> str:
 
 def without_a_compiler_nothing_passes(place: Place) -> str:
     """These tests, run where no program is found: all fail, and they say why."""
-    first, last = ran_to(1, sys.executable, os.path.abspath(__file__), PATH=place.room).splitlines()
+    first, last = printed(sys.executable, os.path.abspath(__file__), status=1, PATH=place.room).splitlines()
     same(last, f"0 passed, {len(TESTS)} failed")
     hold("no compiler of C++" in first, first)
     return f"{len(TESTS)} tests"
@@ -206,8 +201,8 @@ def a_watchdog_kills_who_hangs(place: Place) -> str:
     (shown,), _ = place.bench("watchdog")
     same((shown.verdict, shown.hung, shown.why), ("inconc", ["run 1 stuck"], "run 2 watch on component 2 watchdog: setverdict inconc: the device is stuck"))
     same(shown.locals, {"0 mtc": "none", "1 pump": "pass", "2 watchdog": "inconc"})
-    hold("2 kill 1 -> ok" in shown.block().entries, "nothing was killed")
-    return f"{len(shown.block().entries)} entries"
+    hold("2 kill 1 -> ok" in shown.block().calls, "nothing was killed")
+    return f"{len(shown.block().calls)} entries"
 
 
 def a_case_past_its_time_out(place: Place) -> str:
@@ -227,7 +222,7 @@ def a_dynamic_error_ends_who_sleeps(place: Place) -> str:
     """It is news, as a stop is."""
     (shown,), _ = place.bench("errs")
     same((shown.why, shown.hung), ("run 0 main on mtc: stop 7 -> error no-component", []))
-    return f"{len(shown.block().entries)} entries"
+    return f"{len(shown.block().calls)} entries"
 
 
 def why_is_the_first_that_made_the_verdict(place: Place) -> str:
@@ -249,7 +244,7 @@ def a_result_has_a_model(place: Place) -> str:
 def each_call_has_its_word(place: Place) -> str:
     """Also each status of a component at each of its phases."""
     (shown,), _ = place.bench("calls")
-    return f"{holding.hold_each_call(shown.block().entries)} entries"
+    return f"{holding.hold_each_call(shown.block().calls)} entries"
 
 
 def a_sleep_and_a_time_out_take_their_seconds(place: Place) -> str:
@@ -282,8 +277,8 @@ def a_case_that_another_behaviour_ends(place: Place) -> str:
 def waits_with_a_time_out(place: Place) -> str:
     """They hold or are late, and nobody waits in the table."""
     (shown,), _ = place.bench("waits")
-    same(shown.block().remarks, [(0, "late late held")])
-    hold(not any(" wait " in it for it in shown.block().entries), "it waits in the table")
+    same(shown.block().marked("#"), [(0, "late late held")])
+    hold(not any(" wait " in it for it in shown.block().calls), "it waits in the table")
     return "3 waits"
 
 
@@ -291,19 +286,19 @@ def a_stop_is_learnt_of(place: Place) -> str:
     """In a loop that checks, and by one that catches each std::exception."""
     (shown,), _ = place.bench("stops")
     same((shown.verdict, shown.hung, shown.raised), ("pass", [], []))
-    checks = [it for it in shown.block().entries if it.startswith("1 getverdict")]
+    checks = [it for it in shown.block().calls if it.startswith("1 getverdict")]
     hold(len(checks) <= 8, f"{len(checks)} checks asked the table")
-    return f"{len(shown.block().entries)} entries"
+    return f"{len(shown.block().calls)} entries"
 
 
 def wrong_words_are_not_sent(place: Place) -> str:
     """Each is an invalid argument; remarks are cut and cleaned."""
     (shown,), text = place.bench("words")
-    remarks = [it for _, it in shown.block().remarks]
+    remarks = [it for _, it in shown.block().marked("#")]
     same(remarks[0], "19 of 19")
     same(remarks[1], r"81 \xc2\xb0C " + "x" * 185 + "..")
     same(remarks[2:], ["1 call of another thread"])
-    same(shown.block().entries, ["0 finish -> ok"])
+    same(shown.block().calls, ["0 finish -> ok"])
     hold(text.startswith("4 names\n") and text.endswith("status 0\n"), text[-100:])
     return "23 words"
 
@@ -312,8 +307,8 @@ def each_byte_and_each_limit(place: Place) -> str:
     """A remark with each byte, as many components as there may be, and reports of 20 and of 21 lines of evidence."""
     (said, many), text = place.bench("limits")
     wanted = ["x y" if it == 32 or 9 <= it <= 13 else f"x{chr(it)}y" if 33 <= it <= 126 else f"x\\x{it:02x}y" for it in range(256)]
-    same([it for _, it in said.block().remarks], wanted)
-    same((many.verdict, len(many.locals), many.block().entries[998]), ("none", 1000, "0 create -> made 999"))
+    same([it for _, it in said.block().marked("#")], wanted)
+    same((many.verdict, len(many.locals), many.block().calls[998]), ("none", 1000, "0 create -> made 999"))
     same(re.findall(r"(?m)^evidence.*:$", text), ["evidence:", "evidence, the last 20 of 21 lines:"])
     return f"{len(wanted)} remarks"
 
@@ -322,8 +317,8 @@ def news_between_a_question_and_its_answer(place: Place) -> str:
     """An end is not missed by a wait with a limit, nor a stop by a check."""
     for name, first, second, wanted in (("misses", "0 done 1", "1 finish", "held"), ("checks", "1 getverdict", "0 stop 1", "ended")):
         (shown,), _ = place.bench(name, [sys.executable, "-c", HOLDER, first, second, *place.command])
-        same(shown.block().remarks, [(0, wanted)], name)
-        answers = [it.partition(" -> ")[0] for it in shown.block().entries]
+        same(shown.block().marked("#"), [(0, wanted)], name)
+        answers = [it.partition(" -> ")[0] for it in shown.block().calls]
         hold(f"{first}|{second}" in "|".join(answers), f"{answers}: nothing was held back")
     return "2 orders"
 
@@ -368,9 +363,9 @@ def random_cases_are_legal(place: Place) -> str:
     for it, block in zip(shown, blocks):
         table = Table(block.behaviours)
         for entry in block.entries:
-            table.play(*read_move(entry.partition(" -> ")[0]))
+            table.play(entry.caller, entry.op)
         same([verdict for _, verdict in it.locals.items()], [component.verdict for component in table.components], "the local verdicts:")
-    entries, runs = sum(len(it.entries) for it in blocks), sum(len(it.names) for it in blocks)
+    entries, runs = sum(len(it.entries) for it in blocks), sum(len(it.marked("")) for it in blocks)
     hold(len(blocks) == 10 and entries >= 800 and runs >= 100, f"{len(blocks)} cases, {entries} entries, {runs} behaviours")
     hold(sum(it.verdict == "error" for it in blocks) < 8, "most cases are an error")
     return f"{entries} entries, {runs} behaviours"

@@ -315,7 +315,7 @@ class Blocks(Room):
         """Its script is made of the lines of the bench with two behaviours. It has the line that is shown, and another one without the wait."""
         document, text = read(TOP, BENCHES), " ".join(read(TOP, BENCHES).lines)
         script = next(block.text for block in document.blocks() if block.text.startswith("testcase "))
-        wait = re.search(r"Without the line `([^`]*)` it prints", text)[1]
+        wait = re.search(r"Without `([^`]*)` it prints", text)[1]
         hold(script.count(f"  {wait}\n") == 1, f"{BENCHES}: no line {wait}")
         bench = next(block.text for block in document.blocks() if "> two.evidence" in block.text)
         self.write("two.lines", "".join(f"{it}\n" for it in re.findall(r'ask "([^"]*)"', bench)))

@@ -54,7 +54,8 @@ WITHOUT_ALLOCATOR = ("SlowReader::new", "InputFault::text", "WriteFault::text", 
                      "take_short_move", "take_reply", "Reply::is_ok", "Reply::is_ended", "Reply::is_fault", "ends_case", "ends_pass",
                      "created", "started_on", "is_halting", "keeps_phases", "OutFault::text", "CaseError::text", "CloseFault::text",
                      "verdict_status", "MetRuns::none", "MetRuns::add_refused", "MetRuns::contains", "counts", "is_met", "Everyone::allow",
-                     "has_gone_on", "is_asked", "is_of_judged", "is_picked", "patterns_match")
+                     "has_gone_on", "is_asked", "is_of_judged", "is_picked", "patterns_match", "component", "group", "target", "arguments",
+                     "read_short_move")
 # These take no memory, and are not made with every growth refused by themselves.
 UNTRIED: Tuple[Exempt, ...] = (
     (WITHOUT_ALLOCATOR, "they are handed no allocator"),
@@ -74,6 +75,6 @@ UNTRIED: Tuple[Exempt, ...] = (
     (("CaseState::comp_of", "Table::parked"), "close_case and the calls on a pass make them"),
     (("Block::name", "Sentence::bytes", "MetRuns::add_line", "explored_status", "first_names", "level", "is_found", "steps_of", "next_call", "CaseState::parked", "CaseState::active_on", "Course::known", "Course::turn",
       "Course::would", "Course::carried", "Course::is_over", "Course::components", "Course::phase_of", "Course::is_alive_type",
-      "Course::is_active", "Course::comp_of", "Course::local", "Course::verdict", "Course::history", "Standing::comp", "Standing::bound",
+      "Course::is_active", "Course::local", "Course::verdict", "Course::history", "Standing::comp", "Standing::bound",
       "Standing::called", "Standing::has_left", "Standing::wake"), "they only look at what they are lent"),
 )

@@ -22,6 +22,7 @@ TOP = os.path.dirname(os.path.dirname(HERE))
 sys.path += [os.path.join(TOP, "tests", it) for it in ("program", "serve")]
 
 import case
+import harness
 from case import as_lines, first_difference, untimed
 from examples import faults_of_history
 from reference import Server
@@ -99,7 +100,7 @@ def ended(words: List[str], source: object, seconds: int, variables: Dict[str, s
     pipes = {"stdin": source, "stdout": subprocess.PIPE, "stderr": subprocess.PIPE}
     other = {} if user is None else {"user": user, "group": user, "extra_groups": [], "cwd": "/"}
     with subprocess.Popen(words, start_new_session=True, env={**os.environ, **variables}, **pipes, **other) as started:
-        return Ran(**vars(case.ended(started, b"", seconds)))
+        return Ran(**vars(harness.ended(started, b"", seconds)))
 
 
 @contextlib.contextmanager

@@ -22,9 +22,8 @@ from unittest.mock import patch
 
 sys.dont_write_bytecode = True
 
-import cuts
 import false_answers
-import random_halts
+import given_texts
 import sweeps
 from refusing import Refusing, refusing
 from sweeps import Sweep
@@ -102,9 +101,9 @@ def main() -> int:
             print(f"there is no program {it}: `rt run` in its crate builds it", file=sys.stderr)
             return 3
     results = judged("judged answers", [*false_answers.jobs(), lambda: without_a_compiler(given.program)], {}, 1)
-    results += judged("texts", cuts.jobs(given.program, given.all), TEXT_FLOORS, given.jobs)
-    work = random_halts.jobs(given.program, given.all)
-    results += judged("behaviours that halt one another", work, random_halts.floors(given.all), given.jobs)
+    results += judged("texts", given_texts.jobs(given.program, given.all), TEXT_FLOORS, given.jobs)
+    work = given_texts.jobs_of_halts(given.program, given.all)
+    results += judged("behaviours that halt one another", work, given_texts.floors_of_halts(given.all), given.jobs)
     results += limited(given.program, given.all, given.jobs)
     with refusing() as library:
         results += refused(library, given.program, given.all, given.jobs)

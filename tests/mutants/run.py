@@ -22,12 +22,10 @@ from typing import Dict, Iterator, List, Tuple
 sys.dont_write_bytecode = True
 
 import copies as copies_of
+import judges
 import lists
 import prover
-import test_programs
 from lists import TOP, Answer, Mutant, Outcome
-
-sys.path.append(os.path.join(TOP, "tests", "program"))
 
 from case import lanes
 
@@ -47,10 +45,8 @@ def answers(chosen: List[Mutant], given: argparse.Namespace) -> Iterator[Tuple[M
     by_programs = [it for it in chosen if it.list.tests]
     with ThreadPoolExecutor(given.jobs) as pool, copies_of.Copies(given.jobs) as copies:
         with tempfile.TemporaryDirectory(prefix="filskeam-engine-") as engine:
-            yield from copies_of.answers(test_programs.Judge(program, engine), by_programs, pool, copies)
-        if by_rt:
-            import rattle_tests  # it reads the tables of all tests of the program, which takes seconds
-            yield from copies_of.answers(rattle_tests.Judge(rt, by_rt), by_rt, pool, copies)
+            yield from copies_of.answers(judges.Programs(program, engine), by_programs, pool, copies)
+        yield from copies_of.answers(judges.RattleTests(rt, by_rt), by_rt, pool, copies)
         yield from refused_by_prover(by_prover, pool, rt)
 
 
@@ -83,7 +79,7 @@ def main() -> int:
     if given.look:
         print(f"{len(chosen)} mutants, {len(faults) + len(unread)} faults")
         return 1 if faults or unread else 0
-    if any(it.list.tests in test_programs.WITH_PROGRAM for it in chosen) and not os.access(given.program, os.X_OK):
+    if any(it.list.tests in judges.WITH_PROGRAM for it in chosen) and not os.access(given.program, os.X_OK):
         print(f"there is no program {given.program}: ./ttrun --help builds it", file=sys.stderr)
         return 3
     counts: Counter = Counter({Outcome.UNPLANTED: len(faults)})

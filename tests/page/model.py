@@ -8,10 +8,11 @@ from dataclasses import dataclass
 from functools import lru_cache
 from typing import Any, Dict, List, Optional, Set, Tuple
 
-import evidence_texts
-from histories import EXAMPLES, KINDS, MOST_BYTES, TOP, deciding, entry_of, legal_case, random_block, random_legal, spoilt, states, tables
+from histories import (EXAMPLES, KINDS, MOST_BYTES, PIECES_OF_EVIDENCE, TOP, Case, Line, deciding, entry_of, evidence_of, legal_case, random_block,
+                       random_legal, read_cases, states, tables)
 from harness import Ran, call, hold, reached, same
 from random_courses import parting_lines
+from random_moves import spoilt
 from reports import Told
 from table import VERDICTS, Table
 from texts import Entry, legal_blocks as legal_blocks_of
@@ -182,7 +183,7 @@ def it_tells_where_two_cases_part(context: Context) -> str:
         met[count] += 1
     hold(len(met) >= 3, met)
     rng = random.Random(context.seed)
-    for told in ask(context, "games", ["".join(evidence_texts.evidence_of(rng, it) for it in blocks_of(text)) for _ in range(20)]):
+    for told in ask(context, "games", ["".join(evidence_of(rng, it) for it in blocks_of(text)) for _ in range(20)]):
         same(answer["alike"], told["alike"], "evidence")
     return f"{len(answer['texts'])} cases, alike for {sorted(met)} entries"
 
@@ -289,7 +290,7 @@ def told_of_texts(context: Context, texts: List[bytes]) -> Counter:
     with ThreadPoolExecutor(4) as pool:
         told = list(pool.map(lambda it: checked(context.program, it), texts))
     for text, ran, answer in zip(texts, told, ask(context, "faults", [it.decode("latin-1") for it in texts])):
-        cases, fault = evidence_texts.read(text)
+        cases, fault = read_cases(text)
         same((fault, fault), (told_fault(context, text), answer["fault"]), text)
         wanted = [(it.name, {str(run): name for run, name in it.names.items()}, len(it.entries()), it.verdict) for it in cases]
         same(wanted, [(it["name"], it["names"], it["entries"], VERDICTS[it["told"]]) for it in answer["cases"]], text)
@@ -316,31 +317,31 @@ def it_reads_spoilt_texts_as_the_program_does(context: Context) -> str:
     """Histories and evidence, whole and with faults."""
     rng = random.Random(context.seed + 4)
     blocks = [it for text in EXAMPLES.values() for it in blocks_of(text)] + blocks_of(KINDS) + [random_block(rng, False)[0] for _ in range(60)]
-    histories, whole = [it.encode() for it in blocks], [evidence_texts.evidence_of(rng, it).encode() for it in blocks]
+    histories, whole = [it.encode() for it in blocks], [evidence_of(rng, it).encode() for it in blocks]
     whole += [rng.choice(whole) + block.encode() + rng.choice(whole) for block in blocks[:30]]
-    texts = [*histories, *whole, *(spoilt(rng, histories) for _ in range(2000)), *(evidence_texts.spoilt(rng, whole) for _ in range(1500))]
+    texts = [*histories, *whole, *(spoilt(rng, histories) for _ in range(2000)), *(spoilt(rng, whole, PIECES_OF_EVIDENCE) for _ in range(1500))]
     return reached(told_of_texts(context, texts), {**dict.fromkeys(FAULTS, 150), "bad entry": 1200, "legal": 60, "read": 300, "named": 500, "said": 1500})
 
 
-def spoken(line: evidence_texts.Line) -> str:
+def spoken(line: Line) -> str:
     return f"refused: {line.said}" if line.mark == "!" else f"\u201c{line.said}\u201d"
 
 
-def shape_of_said(case: evidence_texts.Case, on: Optional[int], line: evidence_texts.Line) -> Tuple[str, str, Optional[int]]:
+def shape_of_said(case: Case, on: Optional[int], line: Line) -> Tuple[str, str, Optional[int]]:
     """Form, label and component of a remark or a refused line of a run that is on this component."""
     if on is None:
         return "note", f"{named(case, f'run {line.run}')}: {spoken(line)}", None
     return "box" if line.mark == "!" else "note", spoken(line), on
 
 
-def named(case: evidence_texts.Case, label: str) -> str:
+def named(case: Case, label: str) -> str:
     """A label with the names of behaviours next to the numbers of runs."""
     return re.sub(r"\brun (\d+)", lambda found: f"{found[0]} {case.names.get(int(found[1]), '')}".rstrip(), label)
 
 
 def faults_of_evidence(text: str, told: Dict[str, Any], plain: Dict[str, Any]) -> int:
     """Holds what is shown of evidence to what is shown of the history in it; how many names and remarks there are."""
-    case, entries, shown = evidence_texts.read(text.encode())[0][0], 0, told["shapes"][0]
+    case, entries, shown = read_cases(text.encode())[0][0], 0, told["shapes"][0]
     runs = [dict(it.component_of_run) for it in tables(text)]
     same([it.text for it in case.lines], told["texts"][0])
     for key in ("status", "overall", "told", "isOver", "components", "entries"):
@@ -366,7 +367,7 @@ def it_shows_evidence_as_its_history(context: Context) -> str:
     """Names and remarks change no state, verdict or picture of an entry; each has its place, and so has its component."""
     rng, count = random.Random(context.seed + 5), 0
     blocks = legal_blocks(context)[100:]
-    texts = [evidence_texts.evidence_of(rng, it) for it in blocks]
+    texts = [evidence_of(rng, it) for it in blocks]
     for text, told, plain in zip(texts, ask(context, "games", texts), ask(context, "games", blocks)):
         count += faults_of_evidence(text, told, plain)
     hold(count >= 1200, count)
@@ -377,14 +378,14 @@ def legal_evidence(context: Context, rounds: int) -> List[str]:
     rng = random.Random(context.seed + 6)
     blocks = legal_blocks(context)[250:]
     extra = [legal_case("t", 3, 5, verdict, seed) for seed, verdict in enumerate(VERDICTS[1:4])]
-    return [evidence_texts.evidence_of(rng, it, 20) for it in blocks + extra for _ in range(rounds)]
+    return [evidence_of(rng, it, 20) for it in blocks + extra for _ in range(rounds)]
 
 
 def it_tells_reasons(context: Context) -> str:
     """Next to the entry that made the verdict: the name of its behaviour, and the remarks of its run right before and after it."""
     texts, met = legal_evidence(context, 25), Counter()
     for text, answer in zip(texts, ask(context, "faults", texts)):
-        wanted, came = evidence_texts.read(text.encode())[0][0].why(), answer["cases"][0]["why"]
+        wanted, came = read_cases(text.encode())[0][0].why(), answer["cases"][0]["why"]
         same(wanted is None, came is None, text)
         if wanted is not None:
             same(wanted, {it: came[it] or "" if it == "behind" else came[it] for it in wanted}, text)
@@ -396,7 +397,7 @@ def it_writes_remarks_for_mermaid(context: Context) -> str:
     """Each name and remark is in the diagram, a remark in a note, spelled so that Mermaid reads nothing else in it."""
     texts, count = legal_evidence(context, 2), 0
     for text, answer in zip(texts, ask(context, "games", texts)):
-        case, lines = evidence_texts.read(text.encode())[0][0], answer["mermaid"][0].splitlines()
+        case, lines = read_cases(text.encode())[0][0], answer["mermaid"][0].splitlines()
         hold(all(STATEMENT.fullmatch(it) for it in lines[1:]), [it for it in lines[1:] if not STATEMENT.fullmatch(it)])
         read = [re.sub(r"#(\d+);", lambda found: chr(int(found[1])), it) for it in lines]
         for line in case.lines:

@@ -13,10 +13,9 @@ from collections import Counter
 from typing import Dict, List
 
 from browser import Browser
-from evidence_texts import Case, evidence_of, read
 from harness import TOP, Skipped, call, hold, same, wait_for, write
-from histories import (EXAMPLES, KINDS, KINDS_OF_EVIDENCE, MOST_BYTES, MOST_COMPONENTS, campaign, fullest, legal_case, random_block, random_legal, states,
-                       tables, widest_case)
+from histories import (EXAMPLES, KINDS, KINDS_OF_EVIDENCE, MOST_BYTES, MOST_COMPONENTS, Case, campaign, evidence_of, fullest, legal_case, random_block,
+                       random_legal, read_cases, states, tables, widest_case)
 from model import STATEMENT, Context, blocks_of, checked, legal_evidence
 from table import VERDICTS
 
@@ -31,6 +30,14 @@ LOOKS = ((1280, 800, False), (800, 800, True), (1280, 800, True), (800, 800, Fal
 def page_of(context: Context, name: str, text: str) -> str:
     """Writes the page of a text, with U+2039 instead of each `<` of it, as the sources of the page are."""
     return write(os.path.join(context.room, f"{name}.html"), make.page().replace(make.MARK, make.MARK + text.replace("<", "\u2039")))
+
+
+def hold_apart(text: str, most: int, scripts: int) -> str:
+    """Holds a page to that many bytes at most, to its scripts, and to nothing from elsewhere."""
+    loading = re.search(r"https?://(?!www\.w3\.org/2000/svg)|@import|url\(|\beval\(|\bfetch\(|XMLHttpRequest|import\(| src=", text)
+    hold(loading is None and "default-src 'none'" in text and len(text) <= most, (loading, len(text)))
+    hold(text.count("<script") == text.count("</script>") == scripts and "<!--" not in text, "markup that is none")
+    return f"{len(text)} bytes"
 
 
 def page_of_kinds(context: Context) -> str:
@@ -134,7 +141,7 @@ def each_state(browser: Browser, block: str) -> int:
 def it_shows_the_examples(context: Context, browser: Browser) -> str:
     """Every case of examples/, in each look, and the states at each of its entries."""
     text, count = "".join(EXAMPLES.values()), 0
-    records, (cases, _), blocks = csv_of(context, text), read(text.encode()), blocks_of(text)
+    records, (cases, _), blocks = csv_of(context, text), read_cases(text.encode()), blocks_of(text)
     rows = wanted_rows(context, text, records, cases)
     for width, height, dark in LOOKS:
         browser.open(page_of(context, "examples", text), width, height, dark)
@@ -155,7 +162,7 @@ def it_shows_large_histories(context: Context, browser: Browser) -> str:
     told = []
     for name, text in (("1,000 cases", campaign(1000, 900_000)), ("1,000 components", widest_case("t_wide") + legal_case("t_next", 3, 2, "fail")),
                        ("16 MiB", fullest())):
-        records, (cases, _) = csv_of(context, text), read(text.encode())
+        records, (cases, _) = csv_of(context, text), read_cases(text.encode())
         rows = wanted_rows(context, text, records, cases)
         for width, height, dark in LOOKS[:2] if len(text) == MOST_BYTES else LOOKS:
             browser.open(page_of(context, name.replace(" ", "_"), text), width, height, dark)
@@ -291,7 +298,7 @@ def it_draws_what_no_table_makes(context: Context, browser: Browser) -> str:
     texts[30:] = [evidence_of(rng, it) for it in texts[30:]]
     browser.open(page_of(context, "random", "".join(texts))), browser.js("app.options.isFolded = false")
     rows = browser.js("looking.walk()")
-    same(sum(len(case.lines) for text in texts for case in read(text.encode())[0]), rows)
+    same(sum(len(case.lines) for text in texts for case in read_cases(text.encode())[0]), rows)
     hold(rows >= 600, rows)
     # a case that ends within entries that share a row
     browser.open(page_of(context, "folded", "history 2 t 1\n" + "0 getverdict -> none\n0 stop 0 -> ok\n" * 3 + "end none\n")), browser.go("#/0")
@@ -303,7 +310,7 @@ def it_gives_pictures_and_mermaid(context: Context, browser: Browser) -> str:
     """A picture is whole XML with its colours, names and remarks in it, and is saved; Mermaid's text is shown."""
     text, count = KINDS_OF_EVIDENCE + KINDS + EXAMPLES["verdicts"], 0
     browser.open(page_of(context, "pictures", text)), browser.js("app.options.isFolded = false")
-    cases = read(text.encode())[0]
+    cases = read_cases(text.encode())[0]
     for at, case in enumerate(cases):
         browser.go(f"#/{at}")
         picture = browser.js("fileOf(app.pane.chart)")
@@ -415,7 +422,7 @@ def it_tells_faults(context: Context, browser: Browser) -> str:
         told = " ".join("".join(browser.js("$$('.fault').map(one => one.textContent)")).split())
         errors = checked(context.program, text).errors.decode().replace("ttrun: ", "").strip()
         hold(f"bad_{at}.history: {errors}" in told if errors else not told, (told, errors))
-        browser.holds([len(read(text)[0]) if len(text) <= MOST_BYTES else 0, 0], "[$$('.cases tbody tr').length, $$('img').length]")
+        browser.holds([len(read_cases(text)[0]) if len(text) <= MOST_BYTES else 0, 0], "[$$('.cases tbody tr').length, $$('img').length]")
     for count, ending in ((199, ""), (200, ""), (201, "..")):
         open_files(context, browser, {"bad.history": b"x" * count})
         browser.holds("x" * min(count, 200) + ending, "$('.fault code').textContent")
@@ -455,7 +462,7 @@ def it_prints(context: Context, browser: Browser) -> str:
         browser.open(page_of(context, "printed", case)), browser.go("#/t_print")
         pages = printed(context, browser)
         text, lines = " ".join(pages), case.split("\n")
-        hold("t_print fail" in pages[0] and reason(read(case.encode())[0][0]) in pages[0] and version in pages[0], pages[0][:400])
+        hold("t_print fail" in pages[0] and reason(read_cases(case.encode())[0][0]) in pages[0] and version in pages[0], pages[0][:400])
         hold(all(f"{it} worker_{it} " in text for it in range(1, runs + 1)) and "mtc" in text, "a component is not printed")
         heads = browser.js("looking.onPaper()")
         same([heads[0]] * (runs + 1), heads, "the head of a component is lost")
@@ -494,7 +501,7 @@ def it_shows_evidence(context: Context, browser: Browser) -> str:
     """The table and each chart: every line in its place, reasons, and nothing in a remark that is taken as markup."""
     blocks, count = legal_evidence(context, 1), 0
     text = KINDS_OF_EVIDENCE + "".join(blocks)
-    cases = read(text.encode())[0]
+    cases = read_cases(text.encode())[0]
     wanted = sorted([[it.verdict, it.name, str(len(it.entries())), reason(it)] for it in cases], key=lambda row: STATUSES.index(row[0]))
     for width, height, dark in LOOKS:
         browser.open(page_of(context, "evidence", text), width, height, dark)
@@ -516,7 +523,7 @@ def it_shows_evidence(context: Context, browser: Browser) -> str:
 
 def it_shows_a_case_of_evidence(context: Context, browser: Browser) -> str:
     """Names in heads, starts and states; remarks by the chart, the panel, the search and the box that hides them."""
-    cases = read(KINDS_OF_EVIDENCE.encode())[0]
+    cases = read_cases(KINDS_OF_EVIDENCE.encode())[0]
     browser.open(page_of(context, "kinds_of_evidence", KINDS_OF_EVIDENCE)), browser.go("#/t_heater")
     browser.holds(["mtc, run 0 bench", "1 heater, run 1 probe"], "$$('.heads title').map(title => title.textContent)")
     browser.holds(["mtc", "run 0 bench", "1", "heater", "run 1 probe", "not started"], "$$('.heads text').map(text => text.textContent)")

@@ -21,9 +21,9 @@ import sizes
 import words as of_words
 from case import Case
 from harness import SECONDS, TOP, bytes_of, call, hold, reached
-from histories import campaign, legal_case, random_block, spoilt, widest_case
+from histories import campaign, legal_case, random_block, widest_case
 from model import Context
-from random_moves import mutated
+from random_moves import spoilt
 from random_scripts import changed, drawn_script
 
 # What the engine says of a run that it does not begin.
@@ -130,7 +130,7 @@ def a_thousand_spoilt_texts(context: Context, engine: Engine) -> str:
         met["texts"] += 1
         ending = rng.choice(list(TASKS))
         text = changed(rng, drawn_script(rng, False)) if ending == ".script" and rng.random() < 0.5 else \
-            mutated(rng, rng.choice(given[ending])) if rng.random() < 0.4 else spoilt(rng, given[ending])
+            spoilt(rng, given[ending])
         words = rng.choice(TASKS[ending])
         compare(context, engine, met, (*words, "--states", "2000") if words[0] == "explore" and "--states" not in words else words, text)
     return reached(met, {"texts": 1000, "same": 900, "explore 3": 50, "check 3": 50, "report 3": 100, "replay 3": 100, "run 3": 30})

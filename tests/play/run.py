@@ -21,10 +21,10 @@ from beside import TOP, Context, Engine
 
 import making
 import page_answers
-import page_misuse
 from browser import Chromium
 from firefox import Firefox
 from harness import Answer, Ran, Tests, answers_of, call, chosen, hold, same, status_of, text_of, words_of
+from shown import hold_apart
 
 MOST_MADE = 500_000
 
@@ -38,13 +38,10 @@ def it_is_made_of_its_sources(context: Context) -> str:
 def it_loads_nothing(context: Context) -> str:
     """One file, and nothing from elsewhere."""
     text = text_of(context.page)
-    loading = re.search(r"https?://(?!www\.w3\.org/2000/svg)|@import|url\(|\beval\(|\bfetch\(|XMLHttpRequest|import\(| src=", text)
-    hold(loading is None and "default-src 'none'" in text and len(text) <= MOST_MADE, (loading, len(text)))
     allowed = re.search(r'Content-Security-Policy" content="([^"]*)"', text)[1]
     hold(re.fullmatch(r"default-src 'none'; base-uri 'none'; form-action 'none'; worker-src blob:; style-src 'sha256-[^' ]*'; "
                       r"script-src 'wasm-unsafe-eval' 'sha256-[^' ]*'", allowed), allowed)
-    hold(text.count("<script") == text.count("</script>") == 4 and "<!--" not in text, "markup that is none")
-    return f"{len(text)} bytes"
+    return hold_apart(text, MOST_MADE, 4)
 
 
 def it_is_of_this_version(context: Context) -> str:
@@ -56,7 +53,7 @@ def it_is_of_this_version(context: Context) -> str:
 SOURCES = (it_is_made_of_its_sources, it_loads_nothing, it_is_of_this_version, *making.TESTS)
 # The tests of the sources, of the engine and of the page, and the fewest of each.
 GROUPS = [({it.__name__: it for it in tests}, fewest) for tests, fewest in (
-    (SOURCES, 7), (beside.TESTS, 8), ((*page_answers.TESTS, *page_misuse.TESTS), 15))]
+    (SOURCES, 7), (beside.TESTS, 8), (page_answers.TESTS, 15))]
 
 
 def within(made: ContextManager, test: Callable[[Context, Any], str], context: Context) -> str:

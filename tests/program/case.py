@@ -12,11 +12,11 @@ import time
 from concurrent.futures import ThreadPoolExecutor
 from dataclasses import dataclass
 from itertools import islice
-from typing import Callable, Dict, Iterable, List, Mapping, Optional, Tuple, Union
+from typing import Callable, Dict, Iterable, List, Mapping, Tuple, Union
 
 sys.path.append(os.path.dirname(os.path.dirname(os.path.abspath(__file__))))
 
-from harness import Ran, chosen
+from harness import Ran, chosen, ended
 
 # A program that has not ended after that many seconds is stopped, and its case has failed.
 SECONDS = 60
@@ -129,31 +129,17 @@ def command_of(case: Case, program: str) -> List[Word]:
     return ["sh", "-c", f'{limit}exec "$@" {case.redirect}', "sh", *plain]
 
 
-def ended(started: subprocess.Popen, given: Optional[bytes], seconds: int = SECONDS) -> Ran:
-    """Gives the input, or with None keeps the pipe open, and waits for the program's end. One that has not ended then is killed."""
-    try:
-        if given is None:
-            started.wait(seconds)
-            return Ran(started.stdout.read(), started.stderr.read(), started.returncode)
-        output, errors = started.communicate(given, timeout=seconds)
-        return Ran(output or b"", errors, started.returncode)
-    except subprocess.TimeoutExpired:
-        os.killpg(started.pid, signal.SIGKILL)
-        started.wait()
-        return Ran(b"", b"", started.returncode, is_late=True)
-
-
 def run(case: Case, program: str) -> Ran:
     pipes: Dict[str, int] = {"stdin": subprocess.PIPE, "stdout": subprocess.PIPE, "stderr": subprocess.PIPE}
     with subprocess.Popen(command_of(case, program), bufsize=0, start_new_session=True, **pipes) as started:
         if not case.stays_open:
-            return ended(started, case.given)
+            return ended(started, case.given, SECONDS)
         guard = threading.Timer(SECONDS, os.killpg, (started.pid, signal.SIGKILL))
         guard.start()
         with contextlib.suppress(BrokenPipeError):
             started.stdin.write(case.given)
         guard.cancel()
-        return ended(started, None)
+        return ended(started, None, SECONDS)
 
 
 def answer(program: str, given: bytes, *words: str) -> Ran:

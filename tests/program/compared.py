@@ -4,11 +4,10 @@ import random
 import re
 from collections import Counter
 from dataclasses import dataclass, replace
-from typing import Iterator, List, Tuple, Union
+from typing import Iterator, List, Optional, Tuple, Union
 
 import reports
 from case import Case, Judgement, Ran, answer, as_lines, below, faults_in, refusal, refused, shown_with
-from choosing import Choice, choice
 from courses import fault_of_course
 from random_courses import drawn_campaign
 from rows import ONLY, SHARD, text
@@ -193,6 +192,56 @@ def changed(chance: random.Random, blocks: List[List[bytes]]) -> List[List[bytes
     elif drawn == 9:
         found[at][-1] = f"end {chance.choice(VERDICTS)}\n".encode()
     return found
+
+
+@dataclass(frozen=True)
+class Choice:
+    """The words of a choice; a `*` in a name matches any letters, or none."""
+
+    only: Tuple[str, ...]
+    shard: Optional[Tuple[int, int]]
+
+    def words(self, source: random.Random) -> List[str]:
+        """The options that ask for it, each name in one word with its option or after it."""
+        spelled = [["--only", name] if source.random() < 0.5 else [f"--only={name}"] for name in self.only]
+        if self.shard:
+            word = f"{self.shard[0]}/{self.shard[1]}"
+            spelled.insert(source.randint(0, len(spelled)), ["--shard", word] if source.random() < 0.5 else [f"--shard={word}"])
+        return [word for words in spelled for word in words]
+
+    def lacks(self, names: List[str]) -> bool:
+        return not all(any(takes(it, name) for name in names) for it in self.only)
+
+    def of(self, names: List[str]) -> List[str]:
+        named = [name for name in names if not self.only or any(takes(it, name) for it in self.only)]
+        if self.shard is None:
+            return named
+        number, shards = self.shard
+        return named[number - 1::shards]
+
+
+def takes(pattern: str, name: str) -> bool:
+    return re.fullmatch(pattern.replace("*", ".*"), name) is not None
+
+
+def starred(source: random.Random, name: str) -> str:
+    """A pattern that the name or another one like it matches: a part of the name is a star, or two are, or a star is put in."""
+    for _ in range(source.randint(1, 2)):
+        at = source.randint(0, len(name))
+        name = name[:at] + "*" + name[source.randint(at, len(name)):]
+    return name
+
+
+def choice(source: random.Random, names: List[str]) -> Choice:
+    """A random choice; now and then of a name that no test case has."""
+    only = source.sample(names, source.randint(1, len(names))) if source.random() < 0.6 else []
+    if only and source.random() < 0.3:
+        only.append(source.choice(only))
+    if source.random() < 0.15:
+        only.insert(source.randint(0, len(only)), source.choice(("t100", "T", "t")))
+    only = [starred(source, name) if source.random() < 0.3 else name for name in only]
+    shards = source.randint(1, 5)
+    return Choice(tuple(only), (source.randint(1, shards), shards) if source.random() < 0.6 else None)
 
 
 def drawn_choice(chance: random.Random, campaign: Campaign, blocks: List[List[bytes]]) -> Tuple[Choice, Campaign, List[List[bytes]]]:

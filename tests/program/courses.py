@@ -157,11 +157,6 @@ def with_names(case: TestCase, block: Block) -> Block:
     return replace(block, said=[(0, Said(run, "", it.name)) for run, it in enumerate(case.behaviours)])
 
 
-def without_last(op: Op, noted: Op) -> Op:
-    """The call with as many arguments as were noted, if it has them."""
-    return replace(op, args=op.args[:len(noted.args)])
-
-
 def fault_of_course(case: TestCase, block: Block) -> str:
     """Why a block is no complete course of a test case with its verdict; nothing if it is one. It may have more behaviours than the
     test case, and leave out the last arguments of a start."""
@@ -170,7 +165,7 @@ def fault_of_course(case: TestCase, block: Block) -> str:
     state = State(case)
     for entry in block.entries:
         wanted = state.next_of(entry.caller)
-        if wanted is None or (without_last(wanted.op, entry.op), wanted.reply) != (entry.op, entry.reply):
+        if wanted is None or (replace(wanted.op, args=wanted.op.args[:len(entry.op.args)]), wanted.reply) != (entry.op, entry.reply):
             return f"{case.name}, line {entry.line}: {entry.text()}, and {wanted and wanted.text()} is the next call"
         state.step(entry.caller)
     if state.going:

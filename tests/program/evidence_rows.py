@@ -12,17 +12,17 @@ import examples
 import reports
 from case import Case, Judgement, Ran, answer, as_lines, below, difference, faults_in, joined, refused, shown_with
 from harness import TOP, text_of
+from random_moves import spoilt
 from random_scripts import drawn_script
 from rows import text
 from script_reader import Campaign, read_script
 from sizes import LONGEST_EVIDENCE
-from texts import check
+from texts import Block, check, legal_blocks
 
-# The tests of the page have random evidence, and those of a service the history of a block.
-sys.path += [os.path.join(TOP, "tests", it) for it in ("page", "serve")]
+# The tests of the page have random evidence.
+sys.path.append(os.path.join(TOP, "tests", "page"))
 
-import evidence
-import evidence_texts
+from histories import PIECES_OF_EVIDENCE, evidence_of
 
 # How many bytes `check` reads at a time, at most: what the sources say, so that the rows cut lines where `check` does.
 BYTES_OF_A_PART = int(re.findall(r"(?m)^const PART: usize = (\d+);$", text_of("crates/tc_blocks/src/source.rt"))[0])
@@ -150,17 +150,17 @@ def held_page(program: str) -> List[str]:
     return faults + difference("the text", given, inside.replace("\u2039".encode(), b"<"))
 
 
-def written_of(campaign: Campaign, blocks: List[evidence.Block]) -> bytes:
+def written_of(campaign: Campaign, blocks: List[Block]) -> bytes:
     """Evidence of the campaign with these entries and verdicts: each block names its behaviours first, in their order."""
     return b"".join(as_lines(f"evidence 1 {case.name} {len(case.behaviours)}", *(f"behaviour {at} {it.name}" for at, it in enumerate(case.behaviours)),
-                             *block.entries, f"end {block.verdict}") for case, block in zip(campaign, blocks))
+                             *block.calls, f"end {block.verdict}") for case, block in zip(campaign, blocks))
 
 
 def faults_of_a_run(program: str, script: bytes, live: Tuple[str, ...], met: Counter) -> List[str]:
     """What is wrong with `run --evidence`: it names each behaviour, and what is left without the names is a history of the script, of
     which `check` and the forms of `report` say the same."""
     ran = answer(program, script, "run", *live, "--evidence")
-    campaign, blocks = read_script(script), evidence.blocks_of(ran.output.decode())
+    campaign, blocks = read_script(script), legal_blocks(ran.output)
     plain = "".join(it.history() for it in blocks).encode()
     faults = faults_in(Ran(written_of(campaign, blocks), b"", examples.status_in("history", plain)), ran)
     faults += examples.faults_of_history(campaign, plain)
@@ -168,12 +168,8 @@ def faults_of_a_run(program: str, script: bytes, live: Tuple[str, ...], met: Cou
     for words in (("check",), ("report", "--csv")):
         of_both = [answer(program, it, *words) for it in (plain, ran.output)]
         faults += [] if of_both[0] == of_both[1] else [f"{words}: {of_both[1]} of evidence, and {of_both[0]} of the history in it"]
-    met.update(blocks=len(blocks), names=sum(len(it.names) for it in blocks), entries=sum(len(it.entries) for it in blocks), live=len(live))
+    met.update(blocks=len(blocks), names=sum(len(it.marked("")) for it in blocks), entries=sum(len(it.entries) for it in blocks), live=len(live))
     return faults + reports.faults_of_each_form(program, ran.output)
-
-
-def faults_of_an_example(program: str, stem: str, live: Tuple[str, ...]) -> List[str]:
-    return faults_of_a_run(program, examples.bytes_of(f"{stem}.script"), live, Counter())
 
 
 def cases() -> Iterator[Union[Case, Judgement]]:
@@ -191,7 +187,7 @@ def cases() -> Iterator[Union[Case, Judgement]]:
     for stem in sorted(it.partition(".")[0] for it in os.listdir(examples.FOLDER) if it.endswith(".script")):
         for live in ((), ("--live",)):
             yield Judgement(joined(*live, "evidence_of", stem), f"{' '.join(['ttrun run', *live, '--evidence'])} < examples/{stem}.script",
-                            faults_of_an_example, (stem, live))
+                            faults_of_a_run, (examples.bytes_of(f"{stem}.script"), live, Counter()))
     yield from long_texts()
     yield from parted_texts()
 
@@ -226,10 +222,10 @@ def kind_of(judged) -> str:
 def texts_of(source: random.Random) -> Tuple[List[str], List[bytes]]:
     """Legal blocks of both kinds, and texts of some of them: legal, with another reply or verdict, and spoilt."""
     blocks = [reports.random_block(source, it)[0] for it in range(BLOCKS)]
-    blocks = [evidence_texts.evidence_of(source, it) if source.random() < 0.8 else it for it in blocks]
+    blocks = [evidence_of(source, it) if source.random() < 0.8 else it for it in blocks]
     some = ["".join(source.choice(blocks) for _ in range(source.randint(1, 3))).encode() for _ in range(300)]
     other_some = ["".join(other(source, source.choice(blocks)) for _ in range(source.randint(1, 3))).encode() for _ in range(500)]
-    return blocks, some + other_some + [evidence_texts.spoilt(source, some) for _ in range(900)]
+    return blocks, some + other_some + [spoilt(source, some, PIECES_OF_EVIDENCE) for _ in range(900)]
 
 
 def faults_of_random_texts(program: str, seed: int) -> List[str]:
@@ -247,7 +243,7 @@ def faults_of_a_thousand_blocks(program: str, seed: int) -> List[str]:
     given = "".join(blocks).encode()
     count = sum(it.startswith("evidence") for it in blocks)
     faults = [] if count >= 700 and len(blocks) - count >= 100 and given.count(b"<") >= 1000 else [f"{count} blocks of evidence"]
-    plain = "".join(evidence.blocks_of(it)[0].history() if it.startswith("evidence") else it for it in blocks).encode()
+    plain = "".join(legal_blocks(it.encode())[0].history() if it.startswith("evidence") else it for it in blocks).encode()
     for it in (given, plain):
         faults += faults_in(check(given), answer(program, it, "check"))
     return faults + reports.faults_of_each_form(program, given)

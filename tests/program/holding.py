@@ -15,6 +15,7 @@ REFERENCE = os.path.join(TESTS_FOLDER, "serve", "reference.py")
 sys.path.append(TESTS_FOLDER)
 
 from harness import TOP, Answer, Fault, Folder, Skipped, answer_of, chosen, hold, same, status_of, text_of, words_of
+from texts import EVIDENCE, Block, check, read_blocks
 
 # The tests by their names. A test is called with its place, and may answer what it reached.
 TESTS: Dict[str, Callable[..., object]] = {}
@@ -41,6 +42,28 @@ def raises(kind: Type[BaseException], call: Callable[[], object]) -> BaseExcepti
     except kind as raised:
         return raised
     raise Fault(f"no {kind.__name__} was raised")
+
+
+def evidence_in(text: str) -> List[Block]:
+    """The blocks of a text of evidence, which ends with a line feed."""
+    hold(text.endswith("\n") or not text, "the last line has no line feed")
+    blocks, fault = read_blocks(text.encode()) if text else ([], None)
+    hold(not fault and all(it.format == EVIDENCE for it in blocks), f"no evidence, by its fault {fault}: {text}")
+    return blocks
+
+
+def legal_evidence(text: str) -> List[Block]:
+    """The blocks of such a text, which must be legal: the table of the tests replies so to each entry, and ends so."""
+    blocks = evidence_in(text)
+    hold(not blocks or check(text.encode()).status == 0, f"the evidence is not legal: {text}")
+    return blocks
+
+
+def whole_block(text: str, verdict: str) -> Block:
+    """The only block of a legal text, which has this verdict, and no refused line."""
+    blocks = legal_evidence(text)
+    same([(verdict, [])], [(it.verdict, it.marked("!")) for it in blocks], "the verdict, and refused lines:")
+    return blocks[0]
 
 
 def blocks_of(path: str, kind: str) -> List[str]:

@@ -1,7 +1,7 @@
 """Random lists of moves and random histories: `replay` and `check` are held to the component table in Python."""
 import random
 from collections import Counter
-from typing import Dict, Iterator, List, Tuple
+from typing import Dict, Iterator, List, Sequence, Tuple
 
 from case import Judgement, answer, as_lines, below, faults_in, shown_with
 from table import FAULTS, MOST_COMPONENTS, STATUSES, VERDICTS, Op, Table, Target
@@ -102,36 +102,31 @@ class MoveList:
     def list_text(self) -> bytes:
         return as_lines(f"behaviours {self.behaviours}", *(f"{caller} {op.text()}" for caller, op in self.moves))
 
-    def may_be_of_format_1(self) -> bool:
-        """Whether format 1 can spell the history."""
-        return self.behaviours <= FORMATS["1"] and not any(op.name for _, op in self.moves)
-
     def history_lines(self, name: str, format_of_block: str) -> List[str]:
         """The history, legal if the format can spell it."""
         entries = [f"{caller} {op.text()} -> {reply}" for (caller, op), reply in zip(self.moves, self.replies)]
         return [f"history {format_of_block} {name} {self.behaviours}", *entries, f"end {self.table.overall()}"]
 
 
-def mutated(chance: random.Random, text: bytes) -> bytes:
-    """The text with one byte or one line changed, or cut."""
-    at, what = chance.randrange(len(text)), chance.randrange(7)
-    if what == 0:
-        return text[:at] + bytes([chance.randrange(256)]) + text[at + 1:]
-    if what == 1:
-        return text[:at] + text[at + 1:]
-    if what == 2:
-        return text[:at] + bytes([chance.choice(b" \n0189az\r\t")]) + text[at:]
-    if what == 3:
-        return text[:at]
-    lines = text.splitlines(keepends=True)
-    one, other = chance.randrange(len(lines)), chance.randrange(len(lines))
-    if what == 4:
-        del lines[one]
-    elif what == 5:
-        lines.insert(other, lines[one])
-    else:
-        lines[one], lines[other] = lines[other], lines[one]
-    return b"".join(lines)
+# What a spoilt text may have instead of something, or between two bytes.
+PIECES = (b"", b" ", b"  ", b"\n", b"\n\n", b"\r\n", b"\t", b"\0", b"\xc3\xa9", b"\xef\xbb\xbf", b"x", b"_", b"-", b"<", b"0", b"00", b"1",
+          b"65536", b"4294967296", b"-1", b"all", b"any", b"ended", b"error", b"error stuck", b"made 1", b"ok", b" -> ", b"->", b"end pass\n",
+          b"end\n", b"history 2 t 1\n", b"history 1 t 65\n", b"named all", b" alive", b" named x", b"wait", b"wake ", b"finish", b"HISTORY")
+
+
+def spoilt(rng: random.Random, texts: List[bytes], pieces: Sequence[bytes] = PIECES) -> bytes:
+    """One of the texts with one to three faults."""
+    text = rng.choice(texts)
+    for _ in range(rng.choice((1, 1, 1, 2, 3))):
+        lines, at = text.split(b"\n"), rng.randrange(len(text) + 1)
+        line, piece = rng.randrange(len(lines)), bytes([rng.randrange(256)]) if rng.random() < 0.1 else rng.choice(pieces)
+        words = lines[line].split(b" ")
+        words[rng.randrange(len(words))] = piece
+        changed = [b" ".join(words)]
+        text = rng.choice((text[:at] + piece + text[at:], text[:at] + piece + text[at + rng.randrange(1, 9):], text[:at],
+                           b"\n".join(lines[:line] + lines[line + 1:]), b"\n".join(lines[:line + 1] + lines[line:]), b"\n".join(lines[:line] + changed + lines[line + 1:]),
+                           b"\n".join(lines[:line] + lines[line:line + 2][::-1] + lines[line + 2:])))
+    return text
 
 
 def falsified(chance: random.Random, lines: List[str]) -> None:
@@ -172,7 +167,7 @@ def changed_lists_are_judged(program: str, seed: int) -> Iterator[str]:
     """Lists of moves with a byte or a line changed."""
     chance, met = random.Random(f"changed lists {seed}"), Counter()
     for _ in range(TEXTS):
-        text = mutated(chance, MoveList(chance, Counter(), is_large=False).list_text())
+        text = spoilt(chance, [MoveList(chance, Counter(), is_large=False).list_text()])
         wanted = replay(text)
         met[wanted.errors.decode().rpartition(": ")[2].strip() or "accepted"] += 1
         yield from faults_next_to(program, "replay", text, wanted)
@@ -184,7 +179,8 @@ def drawn_histories(chance: random.Random, what: str, met: Counter) -> bytes:
     lines: List[str] = []
     for at in range(chance.randrange(1, 9)):
         drawn = MoveList(chance, Counter(), is_large=False)
-        is_first = what == "format 1" if not drawn.may_be_of_format_1() else chance.random() < 0.6
+        may_be_first = drawn.behaviours <= FORMATS["1"] and not any(op.name for _, op in drawn.moves)
+        is_first = chance.random() < 0.6 if may_be_first else what == "format 1"
         block = drawn.history_lines(f"t{at}", "1" if is_first else "2")
         met["histories"] += 1
         met[f"format {block[0].split()[1]}"] += 1
@@ -193,7 +189,7 @@ def drawn_histories(chance: random.Random, what: str, met: Counter) -> bytes:
             falsified(chance, block)
         lines += block
     text = as_lines(*lines)
-    return mutated(chance, text) if what == "changed" else text
+    return spoilt(chance, [text]) if what == "changed" else text
 
 
 def histories_are_checked(program: str, seed: int) -> Iterator[str]:

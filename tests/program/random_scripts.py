@@ -7,7 +7,7 @@ import reports
 from case import Judgement, Ran, answer, below, faults_in, shown_with
 from courses import NotInTurn, block_in_turn
 from examples import faults_of_written
-from random_moves import mutated
+from random_moves import spoilt
 from script_reader import Campaign, given_name, read_script
 from table import STATUSES, VERDICTS
 from texts import Block, Judged
@@ -137,7 +137,7 @@ def drawn_script(chance: random.Random, is_in_turn: bool) -> bytes:
 def changed(chance: random.Random, text: bytes) -> bytes:
     """The script with a word, a line or a byte changed."""
     if chance.random() < 0.3:
-        return mutated(chance, text)
+        return spoilt(chance, [text])
     lines = text.decode().split("\n")
     # the first line of a behaviour is rare, and has faults of its own
     heads = [at for at, line in enumerate(lines) if line.split()[:1] == ["behaviour"]]

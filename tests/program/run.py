@@ -20,7 +20,7 @@ from harness import words_of
 # The modules of tests, each with the fewest that it may have. Those that a seed makes are not counted.
 MODULES = {
     "rows": 150, "scripts": 100, "words": 474, "sizes": 57, "terminal": 111, "progress": 72, "examples": 43,
-    "reports": 36, "evidence_rows": 145, "compared": 151, "chosen_rows": 92, "models": 33, "random_models": 80, "explain": 775, "car_window": 3, "choosing": 0,
+    "reports": 36, "evidence_rows": 145, "compared": 151, "chosen_rows": 92, "models": 113, "explain": 775, "car_window": 3,
     "random_moves": 0, "random_scripts": 0, "random_courses": 0}
 
 

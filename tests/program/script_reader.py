@@ -59,11 +59,6 @@ def kinds_of(words: List[str]) -> Optional[List[str]]:
     return None
 
 
-def references_of(words: List[str]) -> List[str]:
-    """The words that are in the place of a component or a group."""
-    return [word for kind, word in zip(kinds_of(words), words) if kind in PLACES and kind != "N"]
-
-
 def given_name(words: List[str]) -> str:
     """The name that a create gives the component that it makes, which is bound under another; empty where it gives none."""
     return words[-1] if len(words) > 3 else ""
@@ -146,7 +141,7 @@ class Names:
         if verb == "create" and words[1] in self.bound:
             return "name already used"
         free = {"mtc", "self", "any", "all"} | self.bound
-        if any(it not in free for it in references_of(words)):
+        if any(kind in PLACES and kind != "N" and word not in free for kind, word in zip(kinds_of(words), words)):
             return "unbound reference"
         if verb == "start":
             behaviour = self.campaign[self.at].find(words[2])

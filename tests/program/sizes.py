@@ -68,12 +68,14 @@ def long_texts() -> Iterator[Case]:
     yield Case("a_long_text", ("check", "--long", "--only", "t*"), history * 2 + block, legal * 2 + b"legal t 0 none\n")
     yield Case("a_long_text_in_csv", ("report", "--csv", "--long", "--last"), history * 2 + block,
                CSV_HEADER.encode() + (csv_of_verdict(name, "none") + csv_of_verdict("t", "none")).replace(",none", ",unfinished").encode(), status=2)
+    yield Case("models_of_a_long_text", ("model", "--long", "--only", "t"), history * 2 + block.replace(b"end", b"0 finish -> ok\nend"), b"testcase t\nbehaviour run_0\nend\nend\n")
     yield refused("a_bad_line_of_a_long_text", ("report", "--csv", "--long"), history * 2 + b"x\n", f"line {2 * history.count(10) + 1}: bad first line")
     longer = history.replace(b" t", b" tt", 1)
     for named, given in (("history_one_byte_longer", longer), ("history_that_never_ends", history[:-9] + b"0 getverdict -> none\n"),
                         ("line_that_never_ends", b"x" * (len(history) + 1)), ("history_too_long_after_a_bad_line", b"x\nend \n" + longer),
                         ("rest_too_long_after_a_bad_line", b"x\n" + b"0 # x\n" * (len(history) // 6 + 1))):
         yield refused(f"a_{named}_in_a_long_text", ("check", "--long"), block + given, TOO_LONG)
+    yield refused("a_history_one_byte_longer_for_a_model", ("model", "--long"), block + longer, TOO_LONG)
 
 
 def faults_of_a_long_text(program: str, *words: str) -> List[str]:

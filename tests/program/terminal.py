@@ -3,14 +3,13 @@ says what is read. Devices that fail: closed, full and broken pipes, a directory
 import contextlib
 import os
 import pty
-import signal
 import subprocess
 import termios
-import threading
 from typing import Iterator, List, Optional, Tuple, Union
 
 import examples
-from case import SECONDS, Case, Judgement, Ran, SomeText, Word, answer, difference, ended, faults_in, refusal, refused
+from case import SECONDS, Case, Judgement, Ran, SomeText, Word, answer, difference, faults_in, refusal, refused
+from harness import ended, shown_at
 from rows import STOP_ON, of_verdicts, text
 
 # A history that is refused, after its script.
@@ -106,16 +105,6 @@ def terminal() -> Tuple[int, int]:
     return master, slave
 
 
-def read_all(master: int) -> bytes:
-    """What a terminal gets until the program has ended."""
-    parts: List[bytes] = []
-    with contextlib.suppress(OSError):  # the program has ended
-        while not parts or parts[-1]:
-            parts.append(os.read(master, 65536))
-    os.close(master)
-    return b"".join(parts)
-
-
 def seen(program: str, words: Tuple[str, ...], given: bytes, typed: bool, shown: bool, told: bool) -> Ran:
     """What a terminal without echo gets of a run, and then what a pipe gets on standard error. Standard input, output and error are at
     the terminal, or not; what is typed ends with the key for the end."""
@@ -123,17 +112,13 @@ def seen(program: str, words: Tuple[str, ...], given: bytes, typed: bool, shown:
     ends = [slave if it else subprocess.PIPE for it in (typed, shown, told)]
     with subprocess.Popen([program, *words], stdin=ends[0], stdout=ends[1], stderr=ends[2], start_new_session=True) as started:
         os.close(slave)
-        guard = threading.Timer(SECONDS, os.killpg, (started.pid, signal.SIGKILL))
-        guard.start()
         if typed:
             os.write(master, given + b"\x04")
         else:
             started.stdin.write(given)
             started.stdin.close()
-        output = read_all(master)
+        output = shown_at(master, started)
         errors = b"" if told else started.stderr.read()
-        started.wait()
-        guard.cancel()
     return Ran(output.replace(b"\r\n", b"\n"), errors, started.returncode)
 
 
@@ -198,7 +183,7 @@ def faults_next_to(program: str, words: Tuple[str, ...], given: Optional[int], t
     other = subprocess.DEVNULL
     with subprocess.Popen([program, *words], stdin=other if given is None else given, stdout=other if taken is None else taken,
                           stderr=subprocess.PIPE, start_new_session=True) as started:
-        return faults_in(refusal(line), ended(started, b""))
+        return faults_in(refusal(line), ended(started, b"", SECONDS))
 
 
 @contextlib.contextmanager

@@ -81,11 +81,6 @@ def read_move(text: str) -> Optional[Tuple[int, Op]]:
     return int(found["caller"]), op
 
 
-def is_reply(text: str) -> bool:
-    found = REPLY.fullmatch(text)
-    return found is not None and int(found["made"] or 0) <= MOST_COMPONENT
-
-
 def is_name(word: str) -> bool:
     return re.fullmatch(NAME, word) is not None and word not in NO_NAMES
 
@@ -147,6 +142,19 @@ class Block:
     verdict: str
     said: Sequence[Tuple[int, Said]] = ()
 
+    @property
+    def calls(self) -> List[str]:
+        """The entries as they are spelled."""
+        return [it.text() for it in self.entries]
+
+    def marked(self, mark: str) -> List[Tuple[int, str]]:
+        """What its lines of this mark say, each after the number of its run."""
+        return [(it.run, it.text) for _, it in self.said if it.mark == mark]
+
+    def history(self) -> str:
+        """The block of a history that is left without what says nothing to the table."""
+        return "".join(f"{it}\n" for it in [f"history 2 {self.name} {self.behaviours}", *self.calls, f"end {self.verdict}"])
+
 
 def read_header(line: str) -> Optional[Tuple[str, str, int]]:
     """The format, the name and the number of behaviours in the first line of a block."""
@@ -162,16 +170,11 @@ def read_header(line: str) -> Optional[Tuple[str, str, int]]:
 
 def read_entry(line: int, text: str, format_of_block: str) -> Optional[Entry]:
     """The entry that the text spells in a block of this format."""
-    move_text, arrow, reply = text.partition(" -> ")
-    move = read_move(move_text)
-    if not arrow or move is None or not is_reply(reply):
+    move_text, _, reply = text.partition(" -> ")
+    move, made = read_move(move_text), REPLY.fullmatch(reply)
+    if move is None or made is None or int(made["made"] or 0) > MOST_COMPONENT:
         return None
     return None if move[1].name and format_of_block == "1" else Entry(line, *move, reply)
-
-
-def runs_of(entry: Entry) -> Set[int]:
-    """The runs that an entry is about: the caller, and the one that is started."""
-    return {entry.caller, entry.op.run} if entry.op.verb == "start" else {entry.caller}
 
 
 def read_said(line: str, behaviours: int, met: Set[int]) -> Optional[Said]:
@@ -206,7 +209,8 @@ def read_blocks(text: bytes) -> Tuple[List[Block], Optional[Tuple[int, str]]]:
                 return blocks, (number, "bad entry")
             entries += [entry] if entry else []
             others += [(len(entries), said)] if said else []
-            met |= runs_of(entry) if entry else {said.run}
+            # An entry is about its caller, and the run that it starts.
+            met |= {said.run} if said else {entry.caller, entry.op.run} if entry.op.verb == "start" else {entry.caller}
     return blocks, (len(lines) + 1, "text ends too early") if header is not None or not lines else None
 
 

@@ -93,11 +93,11 @@ CHECK = ("replays histories and evidence, and says which are legal\n",
          "  missing NAME       there is nothing of NAME\n",
          "Status: 0 if each history is legal, and with --script no such line is printed;\notherwise 3.\n")
 MODEL = ("writes a script of which histories and evidence are courses\n",
-         *(f"  {option:15}{said}" for option, said in OF_HISTORIES if option not in ("--script", "--shard <K/N>", "--long")),
+         *(f"  {option:15}{said}" for option, said in OF_HISTORIES if option not in ("--script", "--shard <K/N>")),
          "Standard input is histories or evidence: ttrun model < FILE. Standard output\n"
          "is a script with a test case for each: ttrun explore says of it whether\n"
-         "another order of the same calls gives another verdict. --only, --failed and\n"
-         "--last choose as those of check do. Of a history that has no such script\n"
+         "another order of the same calls gives another verdict. --only, --failed,\n"
+         "--last and --long are as for check. Of a history that has no such script\n"
          "standard error names the first line that none has, and says why.\n",
          "Status: 0 if each chosen history has one; otherwise 3.\n")
 REPLAY = ("replays a list of moves, and prints each reply and the verdict\n", "  --explain     " + EXPLAIN, "  --no-explain  " + NO_EXPLAIN,
@@ -147,7 +147,7 @@ the arguments '--shard', and '--only' with '--html', need '--script'
     report --shard 1/2
 the argument '{twice}' cannot be used multiple times
     run --junit --suite a --suite b, report --summary --summary, check --explain --explain, check --no-explain --no-explain, check --script --script,
-    model --last --last, model --failed --only a --failed, check --script --shard 1/2 --shard 1/2, check --long --long, check --failed --failed, check --last --last, explore --details --details,
+    model --last --last, model --failed --only a --failed, check --script --shard 1/2 --shard 1/2, check --long --long, model --long --long, check --failed --failed, check --last --last, explore --details --details,
     explore --locals --locals,
     explore --history --history, explore --states 1 --states 1, report --csv --csv, report --html --html, report --failed --failed --csv,
     report --junit --junit, run --csv --csv, run --evidence --evidence, run --failed --failed, explore --shard 1/2 --shard 1/2,
@@ -159,7 +159,7 @@ unrecognized subcommand '{last}'
     '', Run, chec, frobnicate, help a.script, help more, help run check, list, repla, version
 unexpected argument '{last}' found
     check --summary, run --summary, -- run, --csv, --explain, --frobnicate, --junit, --list, --live, --progress, -x, check --csv, check --evidence,
-    model --script, model --long, model --shard, model more, model --csv, check --html, check --junit, check --live, check --progress, check --times, check more, explore --csv, explore --progress, explore --times, explore more,
+    model --script, model --shard, model more, model --csv, check --html, check --junit, check --live, check --progress, check --times, check more, explore --csv, explore --progress, explore --times, explore more,
     replay --list, replay --live, replay more, report --evidence, report --history, report --live, report --junit --times, report more, serve --explain, serve --no-explain,
     serve --evidence, serve --history, serve more, run '', run -, run -- --csv, run -- --live, report --chart, run --chart, run --cs, run --x.y,
     run --a/b, run --csv check, run --details, run --html, run --liv, run --live more, run --only a b, run --version, run -V, run -c, run check,
@@ -203,7 +203,7 @@ html last: report --last --html, report --html --script --last
 script long: check --long --script, report --csv --script --long
 text long: report --long --text
 html long: report --html --long
-explain long: check --long --explain, report --explain --junit --long
+explain long: check --long --explain, model --long --explain, report --explain --junit --long
 csv evidence: run --csv --evidence, run --evidence --csv
 csv history: run --csv --history, run --csv --history --junit, run --csv --history --stop-on no, run --csv --live --history, run --history --csv,
     run --history --stop-on pass --csv, run --live --csv --history

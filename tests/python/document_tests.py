@@ -166,7 +166,7 @@ def a_device_behind_a_pseudo_terminal(place: Place) -> None:
         os.close(it)
     same((result.verdict, result.locals), ("error", {0: "none", 1: "pass", 2: "pass", 3: "pass", 4: "error"}))
     holds_word("stopcase: TimeoutError: no answer to b'hang'", result.why)
-    hold((3, r"b'ok off'") in legal(result).remarks, "the last answer is no reason")
+    hold((3, r"b'ok off'") in legal(result).marked("#"), "the last answer is no reason")
     place.reach("frames", len(frames), 4)
 
 
@@ -192,7 +192,7 @@ def a_stuck_device_is_killed_by_a_watchdog(place: Place) -> None:
     for result in results:
         same((result.verdict, result.local("pump"), result.local("watchdog"), result.hung), ("inconc", "none", "inconc", ("run 1 stuck",)))
         same(result.why, "run 2 watchdog on component 2 watchdog: setverdict inconc: the device is stuck")
-        hold("2 kill 1 -> ok" in legal(result).entries, "nothing was killed")
+        hold("2 kill 1 -> ok" in legal(result).calls, "nothing was killed")
         holds_word("has not returned: run 1 stuck", result.report())
     place.reach("stuck devices", len(results), 2)
 

@@ -11,10 +11,9 @@ import time
 from typing import Callable, Iterator, List
 from unittest.mock import patch
 
-import evidence
 from document_tests import README
 from filskeam import Case, DynamicError, Ended, Run
-from holding import hold, holds_word, raises, same, text_of
+from holding import evidence_in, hold, holds_word, raises, same, text_of
 from kit import CLIENT, FOR_EVER, HANGS, Place, legal, timed
 
 
@@ -57,7 +56,7 @@ def a_behaviour_that_raises_stops_the_case(place: Place) -> None:
             result = timed(lambda: server.run("t_raises", alone(worker), timeout=5), 10)
             same((result.verdict, result.local("worker"), result.local("mtc")), ("error", "error", "none"))
             same([it.exception for it in result.raised], [raised])
-            hold("1 stopcase -> ok" in legal(result).entries, "there is no stopcase")
+            hold("1 stopcase -> ok" in legal(result).calls, "there is no stopcase")
             where = f" (ending_tests.py:{worker.__code__.co_firstlineno + 2})"
             told = (text if len(text + where) <= 200 else text[:198 - len(where)] + "..") + where
             same(result.why, f"run 1 worker on component 1 worker: stopcase: {told}")
@@ -116,7 +115,7 @@ def a_thread_that_cannot_be_made(place: Place) -> None:
         result = timed(lambda: place.run("t_thread", alone(worker)), 10)
     same((result.verdict, result.hung, [it.run for it in result.raised]), ("error", (), [0]))
     holds_word("run 0 main on mtc: stopcase: RuntimeError: can't start new thread", result.why)
-    place.reach("entries", len(legal(result).entries), 3)
+    place.reach("entries", len(legal(result).calls), 3)
 
 
 def a_case_past_its_time_out(place: Place) -> None:
@@ -190,7 +189,7 @@ def a_case_past_its_time_out_is_no_pass(place: Place) -> None:
         same(server.close(), 2, "the status:")
     same((result.verdict, result.is_timed_out, result.hung), ("error", True, ("run 0 stalls",)))
     same(result.why, "the test case took longer than 0.5 s; not returned: run 0 stalls")
-    (block,) = evidence.blocks_of(result.evidence)
+    (block,) = evidence_in(result.evidence)
     same(block.verdict, "pass", "the evidence:")
     place.reach("entries", len(block.entries), 2)
 
@@ -214,7 +213,7 @@ def who_hangs_says_nothing_more_once_it_wakes(place: Place) -> None:
         server.run("warm", lambda run: None)
         first = server.run("t_first", sleeper, timeout=0.3)
         result = server.run("t_second", second, timeout=20)
-    same((first.hung, result.verdict, len(legal(result).entries)), (("run 0 sleeper",), "pass", 2))
+    same((first.hung, result.verdict, len(legal(result).calls)), (("run 0 sleeper",), "pass", 2))
     place.reach("late calls", len(woken), 5)
 
 
@@ -231,7 +230,7 @@ def a_case_that_another_behaviour_ends(place: Place) -> None:
 
             result = timed(lambda: server.run("t_ended", main), 10)
             same((result.hung, result.is_timed_out), (("run 0 main",), False))
-            place.reach("entries", len(legal(result).entries), 3)
+            place.reach("entries", len(legal(result).calls), 3)
     wakes.set()
 
 
@@ -261,7 +260,7 @@ def nothing_comes_after_a_stop_of_the_case(place: Place) -> None:
 
     result = place.run("t_stop", main)
     same((result.verdict, result.raised, reached), ("error", (), []))
-    place.reach("entries", len(legal(result).entries), 1)
+    place.reach("entries", len(legal(result).calls), 1)
 
 
 def ended_is_no_exception(place: Place) -> None:
@@ -296,7 +295,7 @@ def ended_is_no_exception(place: Place) -> None:
 
     result = place.run("t_stubborn", main, 20)
     same((result.verdict, result.hung, result.raised, set(tries)), ("pass", (), (), {"none"}))
-    hold(sum(it.startswith("2 ") and it.endswith("-> ended") for it in legal(result).entries) == 1, "the table was asked again")
+    hold(sum(it.startswith("2 ") and it.endswith("-> ended") for it in legal(result).calls) == 1, "the table was asked again")
     place.reach("calls", len(tries) + len(more), 5050)
 
 
@@ -332,7 +331,7 @@ def check_and_sleep_learn_of_a_stop(place: Place) -> None:
 
     result = timed(lambda: place.run("t_check", main, 30), 20)
     same((result.verdict, result.hung), ("pass", ()))
-    entries = [it for it in legal(result).entries if "getverdict" in it]
+    entries = [it for it in legal(result).calls if "getverdict" in it]
     hold(len(entries) <= 8, f"a loop of {len(turns)} turns left {len(entries)} entries")
     place.reach("turns", len(turns), 300)
 
@@ -358,7 +357,7 @@ def a_wait_may_have_a_time_out(place: Place) -> None:
     result = place.run("t_wait", main, 30)
     same((result.verdict, found), ("none", [False, False, True, True, True]))
     hold(seconds[0] < 10, f"the wait took {seconds[0]:.1f} seconds")
-    waits = [it for it in legal(result).entries if " wait " in it]
+    waits = [it for it in legal(result).calls if " wait " in it]
     same(waits, ["0 wait killed all -> matched"])
     hold(len(result.evidence.splitlines()) < 25, "it asks too often")
     place.reach("waits", len(found), 5)
@@ -400,7 +399,7 @@ def a_wait_with_a_time_out_misses_no_end(place: Place) -> None:
 
     result = timed(lambda: place.run("t_missed", main, 30), 6)
     same((result.verdict, found), ("none", [True]))
-    place.reach("entries", len(legal(result).entries), 6)
+    place.reach("entries", len(legal(result).calls), 6)
 
 
 def a_check_misses_no_stop(place: Place) -> None:
@@ -434,7 +433,7 @@ def a_check_misses_no_stop(place: Place) -> None:
 
     result = timed(lambda: place.run("t_missed", main, 8), 20)
     same((result.verdict, len(found), result.raised), ("none", 1, ()))
-    place.reach("entries", len(legal(result).entries), 10)
+    place.reach("entries", len(legal(result).calls), 10)
 
 
 def a_forked_child_keeps_no_pipe(place: Place) -> None:
@@ -474,7 +473,7 @@ def a_bench_that_is_interrupted_leaves_its_evidence(place: Place) -> None:
         found = place.blocks("run.evidence")
         same([it.verdict for it in found], ["error"])
         block = found[0]
-        holds_word("the bench was interrupted; not returned: run 1 worker", block.remarks[0][1])
+        holds_word("the bench was interrupted; not returned: run 1 worker", block.marked("#")[0][1])
         place.reach("entries", len(block.entries), 4)
 
 
@@ -539,5 +538,5 @@ def the_calls_of_a_run_are_its_own_threads(place: Place) -> None:
         run.set_verdict("pass")
 
     result = place.run("t_threads", main)
-    same((result.verdict, legal(result).remarks, len(result.evidence.splitlines())), ("pass", [(0, "from another thread")], 6))
+    same((result.verdict, legal(result).marked("#"), len(result.evidence.splitlines())), ("pass", [(0, "from another thread")], 6))
     place.reach("calls", len(found), 5)

@@ -10,10 +10,10 @@ TESTS_FOLDER = os.path.dirname(os.path.dirname(os.path.abspath(__file__)))
 CLIENT = os.environ.get("FILSKEAM_CLIENT", os.path.join(os.path.dirname(TESTS_FOLDER), "clients", "python"))
 sys.path[:0] = [CLIENT, os.path.join(TESTS_FOLDER, "serve"), os.path.join(TESTS_FOLDER, "program")]
 
-import evidence
 from filskeam import Result, Server
 from filskeam.words import Behaviour
-from holding import ServerRoom, hold
+from holding import ServerRoom, hold, legal_evidence, whole_block
+from texts import Block
 
 SECONDS = 240
 # How long a behaviour that hangs is waited for, in these tests; and how long any other may take to return, or a server to end.
@@ -49,13 +49,13 @@ class Place(ServerRoom):
         self.reached.append(f"{count} {what}")
         hold(count >= least, f"{count} {what}, and {least} are wanted")
 
-    def blocks(self, name: str) -> List[evidence.Block]:
+    def blocks(self, name: str) -> List[Block]:
         """The evidence in a file, which must be legal."""
-        return evidence.legal_blocks(self.text(name))
+        return legal_evidence(self.text(name))
 
 
-def legal(result: Result) -> evidence.Block:
-    return evidence.whole_block(result.evidence, result.verdict)
+def legal(result: Result) -> Block:
+    return whole_block(result.evidence, result.verdict)
 
 
 def timed(call: Callable[[], Result], most: float) -> Result:

@@ -6,9 +6,8 @@ import time
 from typing import List
 from unittest.mock import patch
 
-import evidence
 from filskeam import DynamicError, NoProgram, Refused, Run, Server, ServerEnded
-from holding import TOP, hold, holds_word, raises, same
+from holding import TOP, evidence_in, hold, holds_word, legal_evidence, raises, same
 from kit import CLIENT, FOR_EVER, Place, legal, timed
 
 # A server that answers the first lines rightly, and then writes what it was given; then it ends, or waits.
@@ -64,7 +63,7 @@ def a_server_that_is_killed(place: Place) -> None:
         same((result.verdict, result.fault, result.why), ("error", "the server ended with signal 9", "the server ended with signal 9"))
         same((sorted(ended), result.hung, result.raised), ([0, 1, 2, 3, 4, 5], (), ()))
         lines = result.evidence.splitlines()
-        evidence.legal_blocks(result.evidence + "end pass\n")
+        legal_evidence(result.evidence + "end pass\n")
         legal(server.run("t_next", main_that_calls))
         same(server.close(), 3, "the status:")
     place.reach("lines", len(lines), 17)
@@ -123,7 +122,7 @@ def a_server_that_writes_nonsense(place: Place) -> None:
             result = timed(lambda: server.run("t_nonsense", main_that_calls, timeout=20), 15)
             same((result.verdict, result.hung), ("error", ()), repr(lines[:60]))
             hold(result.fault.startswith("the server wrote what it may not write here: "), f"{lines[:60]!r}: {result.fault}")
-            evidence.blocks_of(result.evidence + "end none\n")
+            evidence_in(result.evidence + "end none\n")
             same(server.close(), 3, "the status:")
     place.reach("kinds of nonsense", len(NONSENSE), 22)
 
@@ -181,8 +180,8 @@ def a_refused_line_changes_nothing(place: Place) -> None:
         result = server.run("t_refused", main)
         told = [f"the server refused a line of run 0 main: {why}" for why in ("bad line", "bad line", "a wake comes of itself", "bad line")]
         same((result.verdict, found), ("pass", told))
-        block = evidence.blocks_of(result.evidence)[0]
-        same((len(block.refused), server.run("t_next", main_that_calls).verdict), (4, "pass"))
+        block = evidence_in(result.evidence)[0]
+        same((len(block.marked("!")), server.run("t_next", main_that_calls).verdict), (4, "pass"))
         same(server.close(), 3, "the status:")
     place.reach("refused lines", len(found), 4)
 
@@ -268,5 +267,5 @@ def more_runs_than_there_may_be(place: Place) -> None:
     result = place.run("t_many", main)
     same((result.verdict, started, type(result.raised[0].exception)), ("error", list(range(1, 256)), DynamicError))
     same(result.why, "run 0 main on mtc: start 1 256 -> error no-behaviour: a test case has at most 256 behaviours, and each start is one")
-    same(len(legal(result).names), 256, "names:")
+    same(len(legal(result).marked("")), 256, "names:")
     place.reach("runs", len(started), 255)

@@ -10,7 +10,6 @@ from harness import call
 from holding import hold, hold_each_call, holds_word, raises, same
 from kit import FOR_EVER, Place, legal
 from table import Table
-from texts import read_move
 
 
 def nothing(run: Run) -> None:
@@ -50,7 +49,7 @@ def each_call_has_its_word(place: Place) -> None:
         run.set_verdict("pass")
         run.get_verdict()
 
-    place.reach("entries", hold_each_call(legal(place.run("t_calls", main, 30)).entries), 30)
+    place.reach("entries", hold_each_call(legal(place.run("t_calls", main, 30)).calls), 30)
 
 
 def wrong_words_are_not_sent(place: Place) -> None:
@@ -63,7 +62,7 @@ def wrong_words_are_not_sent(place: Place) -> None:
 
     with place.server() as server:
         result = server.run("t_words", main)
-        same((result.verdict, legal(result).entries), ("none", ["0 finish -> ok"]))
+        same((result.verdict, legal(result).calls), ("none", ["0 finish -> ok"]))
         same(server.close(), 0, "the status:")
     same(found[0], "'passed' is no verdict to set: there are none, pass, inconc and fail")
     same(found[13], "'any' is not a component's number or 'all'")
@@ -89,7 +88,7 @@ def remarks_are_cut_and_cleaned(place: Place) -> None:
         result = server.run("t_remarks", main)
         same(server.close(), 0, "the status:")
     wanted = [(0, plain) for _, plain in REMARKS for _ in range(2) if plain is not None]
-    same(legal(result).remarks, wanted)
+    same(legal(result).marked("#"), wanted)
     place.reach("remarks", len(wanted), 28)
 
 
@@ -131,9 +130,9 @@ def one_function_is_many_behaviours(place: Place) -> None:
     same(result.verdict, "pass")
     names = ["main", *["probe"] * 4, "lambda", "Sampler", "method", "probe", "a_name_that_is_longer_than_a_nam",
              "self_", "mtc_", "any_", "all_", "behaviour_"]
-    same(sorted(legal(result).names), list(enumerate(names)))
+    same(sorted(legal(result).marked("")), list(enumerate(names)))
     same(sorted(got), [((), "p"), ((0,), "w0"), ((1, 0), "w1"), ((1, 2, 0), "w2"), ((1, 2, 3, 0), "w3")])
-    hold("0 start 4 4 1 2 3 0 -> ok" in legal(result).entries, "the arguments are not in the evidence")
+    hold("0 start 4 4 1 2 3 0 -> ok" in legal(result).calls, "the arguments are not in the evidence")
     place.reach("behaviours", len(names), 15)
 
 
@@ -256,19 +255,14 @@ def judged(result: Result, met: Counter) -> None:
     """Holds a result to the table of the tests, and counts what is in it."""
     block = legal(result)
     table = Table(block.behaviours)
-    for entry in block.entries:
-        move, _, reply = entry.partition(" -> ")
-        caller, op = read_move(move)
-        same(table.play(caller, op), reply, entry)
-        met[op.verb] += 1
-        met["parked"] += reply == "parked"
-        met["ended"] += reply == "ended"
-        met["dynamic error"] += reply.startswith("error ")
+    for it in block.entries:
+        same(table.play(it.caller, it.op), it.reply, it.text())
+        met.update([it.op.verb, f"{it.reply.split()[0]} reply"])
     same(result.locals, {at: it.verdict for at, it in enumerate(table.components)}, "the local verdicts:")
     met[result.verdict] += 1
-    met["remarks"] += len(block.remarks)
+    met["remarks"] += len(block.marked("#"))
     met["raised"] += sum(not isinstance(it.exception, DynamicError) for it in result.raised)
-    met["behaviours"] += len(block.names)
+    met["behaviours"] += len(block.marked(""))
     met["hung"] += len(result.hung)
 
 
@@ -295,6 +289,6 @@ def random_cases_are_legal(place: Place) -> None:
             judged(results[-1], met)
     hold_by_program(place, results)
     same(met["hung"], 0, "hanging behaviours:")
-    for what, least in (("behaviours", 450), ("create", 450), ("start", 450), ("setverdict", 100), ("wait", 20), ("wake", 15), ("parked", 15),
-                        ("ended", 30), ("remarks", 60), ("finish", 40), ("raised", 1), ("dynamic error", 2), ("error", 4), ("fail", 4)):
+    for what, least in (("behaviours", 450), ("create", 450), ("start", 450), ("setverdict", 100), ("wait", 20), ("wake", 15), ("parked reply", 15),
+                        ("ended reply", 30), ("remarks", 60), ("finish", 40), ("raised", 1), ("error reply", 2), ("error", 4), ("fail", 4)):
         place.reach(what, met[what], least)

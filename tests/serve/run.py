@@ -8,7 +8,7 @@ Without --server it is the reference server itself that is tested, tests/serve/r
 """
 import os
 import sys
-from typing import List, Sequence
+from typing import List
 
 sys.dont_write_bytecode = True
 sys.path.insert(0, os.path.join(os.path.dirname(os.path.dirname(os.path.abspath(__file__))), "program"))
@@ -16,7 +16,7 @@ sys.path.insert(0, os.path.join(os.path.dirname(os.path.dirname(os.path.abspath(
 import over_pipes
 import served_rows
 import sessions
-from case import Case, Judgement, chosen_tests, faults_of, run_all
+from case import Judgement, chosen_tests, faults_of, run_all
 from harness import call
 from holding import command_of, words_of_clients
 
@@ -24,15 +24,11 @@ FEWEST_ROWS = 98
 SEEDS = 4
 
 
-def faults_of_row(command: Sequence[str], row: Case) -> List[str]:
-    return faults_of(row, call(command, row.given))
-
-
 def tests(seed: int) -> List[Judgement]:
     table = list(served_rows.rows())
     if len(table) < FEWEST_ROWS or len({row.name for row in table}) < len(table):
         sys.exit(f"there are {len(table)} rows; {FEWEST_ROWS} are wanted, each with a name of its own")
-    found = [Judgement(row.name, "", faults_of_row, (row,)) for row in table]
+    found = [Judgement(row.name, "", lambda command, row: faults_of(row, call(command, row.given)), (row,)) for row in table]
     found += [Judgement(name, "", judge) for name, judge in over_pipes.TESTS.items()]
     return found + [Judgement(f"{kind}_sessions_{it}", "", sessions.random_sessions, (it, kind == "plain"))
                     for kind in ("random", "plain") for it in range(SEEDS * seed, SEEDS * seed + SEEDS)]

@@ -10,7 +10,6 @@ import subprocess
 from collections import Counter
 from typing import Iterator, List, Sequence
 
-import evidence
 from case import Ran, as_lines, below, faults_in, shown_with
 from harness import PROGRAM, call
 from random_moves import drawn_op, ends_case
@@ -157,11 +156,10 @@ FLOORS = {
 
 
 def faults_by_program(output: bytes) -> List[str]:
-    """What `ttrun check` of the last build, if there is one, has against the evidence without its remarks."""
+    """What `ttrun check` of the last build, if there is one, has against the evidence."""
     if not os.access(PROGRAM, os.X_OK):
         return []
-    histories = "".join(block.history() for block in evidence.blocks_of(output.decode("latin-1")))
-    ran = call([PROGRAM, "check"], histories.encode())
+    ran = call([PROGRAM, "check"], output)
     return [] if ran.status == 0 else [f"ttrun check says: {ran.output[-200:]!r} {ran.errors!r}"]
 
 

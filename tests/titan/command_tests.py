@@ -11,13 +11,13 @@ from typing import Dict, List, Tuple
 
 import made
 from holding import Skipped, hold, same, text_of
-from kit import CLIENT, TOP, Place, Ran, lines_of, log
+from kit import CLIENT, LOGS, TOP, Place, Ran, lines_of, log
 from script_reader import read_script
 from table import Op
 from texts import Block, Judged, check, read_history
 
 import record
-from titan_logs import cases, command, histories, playing, scripts
+from titan_logs import audit, cases, command, histories, playing
 
 FULL, PAGE = log("pumps-full.merged"), os.path.join(TOP, "docs", "titan.md")
 STEADY = ("t_restart", "t_any_all", "t_watched", "t_killed_start", "t_stopped_start", "t_nested", "t_echo", "t_error", "t_stopcase",
@@ -288,8 +288,9 @@ def scripts_are_what_explore_reads(place: Place) -> None:
     ran = place.command("script", FULL)
     told = [f"ttrun-titan: {it}: the error of r1 is written as its kill: explore cannot say error\n" for it in ("t_error", "t_stopcase")]
     same((ran.status, ran.errors), (0, "".join(told)))
-    marked = [ran.lines[at + 1] for at, line in enumerate(ran.lines) if line == scripts.ERROR]
+    marked = [ran.lines[at + 1] for at, line in enumerate(ran.lines) if line == audit.ERROR]
     same(marked, ["  kill self"] * 2)
+    same(ran.lines.count("  getverdict"), text_of(FULL).count(" getverdict: "))
     text = f"{ran.text}\n"
     found = read_script(text.encode())
     hold(not isinstance(found, Judged), found)
@@ -308,8 +309,16 @@ def a_script_of_each_log_is_run(place: Place) -> None:
         text = f"{place.command('script', log(name) if '.' in name else place.recorded(name)).text}\n"
         ran = subprocess.run([place.program, "run", "--list"], input=text.encode(), capture_output=True, check=False)
         same((ran.stderr, len(ran.stdout.splitlines()) > 0), (b"", True), name)
-    for number in range(1, 256):
-        same(scripts.named(cases.Run(number, number, "f"), number), "self")
+
+
+def the_histories_of_each_log_have_models(place: Place) -> None:
+    """In each the behaviours have ended that others halted. A script has no fifth argument, and no component that nobody made."""
+    logs = [place.recorded(it[:-len(".logs")]) if it.endswith(".logs") else log(it) for it in os.listdir(LOGS) if not it.endswith(".sh")]
+    for word, least in (("audit", 87), ("flaky", 100)):
+        place.command(word, *logs, "--history", word)
+        ran = subprocess.run([place.program, "model"], input=place.text(word).encode(), capture_output=True, check=False)
+        lacking = Counter(line.rpartition(": ")[2] for line in ran.stderr.decode().splitlines())
+        hold(ran.stdout.count(b"testcase ") >= least and set(lacking) <= {"too many arguments", "a component that the run is not given"}, (word, lacking))
 
 
 def orders_side_by_side_are_cut_after_twelve_rows(place: Place) -> None:
@@ -331,9 +340,10 @@ def the_most_that_a_history_holds(place: Place) -> None:
 def what_no_script_holds_is_told(place: Place) -> None:
     made.put(made.crowd(300, 1), place.path("logs"))
     ran = place.command("script", "logs")
-    hold(ran.status == 3 and ran.lines == [] and "300 starts, and a script holds 255 behaviours" in ran.errors, ran)
+    hold(ran.status == 3 and ran.lines == [] and "no script holds it: 300 starts, and a history holds 255" in ran.errors, ran)
     place.says(0, "its order is not shown to ttrun check: 300 starts, and a history holds 255", "audit", "logs")
-    place.says(3, "a script passes at most 4", "script", log("quarrel-shim.merged"), "--only", "t_quarrel")
+    ran = place.says(3, ": too many arguments: ", "script", log("quarrel-shim.merged"), "--only", "t_quarrel")
+    hold(re.search(r"no model of t_quarrel: too many arguments: \d+ .* -> \w+ \(quarrel-shim.merged:\d+: .*\)\n", ran.errors), ran)
 
 
 def words_that_it_does_not_know(place: Place) -> None:

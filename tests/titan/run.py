@@ -17,7 +17,7 @@ from kit import holding, judged
 
 holding.load("command_tests", "reading_tests", "search_tests")
 # There are no fewer tests.
-FEWEST = 73
+FEWEST = 74
 
 
 def main() -> int:

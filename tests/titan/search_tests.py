@@ -13,7 +13,7 @@ from script_reader import read_script
 from table import VERDICTS, Op, Table
 from texts import Judged
 
-from titan_logs import audit, cases, flaky, histories, playing, scripts, search
+from titan_logs import audit, cases, flaky, histories, playing, search
 
 STATES = 100_000
 COURSES = 120
@@ -102,7 +102,7 @@ def no_verdict_is_missed_and_none_made_up(place: Place) -> None:
         looked += 1
         several += len(wanted) > 1
         for verdict, entries in found.witnesses.items():
-            same(histories.verdict_of(case, entries), verdict, f"seed {seed}")
+            same(playing.played(case, entries).overall(), verdict, f"seed {seed}")
             blocks.append(histories.block_of(case, entries))
     hold(looked > COURSES and several > 10, (looked, several))
     same(set(histories.checked(place.program, blocks)), {""})
@@ -291,8 +291,8 @@ def a_script_has_every_verdict_that_is_named(place: Place) -> None:
     looked = several = 0
     for seed in range(COURSES):
         case = read_made(place, made.course(seed + 5000, most=8 + seed % 10, components=3), str(seed))
-        text, _ = scripts.script_of(case)
-        if text is None:
+        text, why = audit.script_of(case, STATES, place.program)
+        if why:
             continue
         campaign = read_script(text.encode())
         hold(not isinstance(campaign, Judged), f"seed {seed}: {campaign} {text}")

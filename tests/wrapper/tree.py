@@ -15,7 +15,8 @@ import threading
 import time
 from typing import Callable, Dict, Iterator, List, Optional, Sequence, Tuple
 
-from harness import SECONDS, TOP, Fault, Folder, Ran, add_tools, hold, same, text_of, wait_for
+import harness
+from harness import SECONDS, TOP, Folder, Ran, add_tools, hold, same, text_of, wait_for
 
 NOBODY = 65534
 BUILDER = "tools/first_build.py"
@@ -48,13 +49,9 @@ def as_user(drops: bool) -> Callable[[], None]:
 
 def ended(started: subprocess.Popen, given: Optional[bytes] = b"") -> Ran:
     """Waits for the end of a call. One that has not ended in time is stopped, and its test has failed."""
-    try:
-        output, errors = started.communicate(given, timeout=SECONDS)
-    except subprocess.TimeoutExpired:
-        os.killpg(started.pid, signal.SIGKILL)
-        started.wait()
-        raise Fault(f"it had not ended after {SECONDS} seconds") from None
-    return Ran(output or b"", errors or b"", started.returncode)
+    ran = harness.ended(started, given)
+    hold(not ran.is_late, f"it had not ended after {SECONDS} seconds")
+    return ran
 
 
 def hold_refused(ran: Ran, *words: str) -> None:
@@ -176,18 +173,8 @@ class Tree(Folder):
         fcntl.ioctl(slave, termios.TIOCSWINSZ, struct.pack("HHHH", 24, columns, 0, 0))
         started = self.start(*words, streams={"stdin": slave, "stdout": slave, "stderr": slave}, **more)
         os.close(slave)
-        guard = threading.Timer(SECONDS, os.killpg, (started.pid, signal.SIGKILL))
-        guard.start()
-        output = b""
-        with contextlib.suppress(OSError):  # which comes at the end of all that is written
-            while piece := os.read(master, 65536):
-                output += piece
-                if keys and b"tc_low 0 of" in output:
-                    os.write(master, keys)
-                    keys = b""
-        started.wait()
-        guard.cancel()
-        os.close(master)
+        left = [keys] if keys else []
+        output = harness.shown_at(master, started, lambda seen: left and b"tc_low 0 of" in seen and os.write(master, left.pop()))
         return Ran(output, b"", started.returncode), output.decode().split("\r\n")
 
     def built(self) -> "Tree":

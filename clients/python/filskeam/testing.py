@@ -59,10 +59,11 @@ class Bench:
             raise AssertionError(f"{result.name} ended with {result.verdict}, and {expect} is expected: {result.why}")
         return result
 
-    def overlooked(self) -> str:
-        """The test cases that ended with inconc, fail or error, and whose verdict nobody has read: who, and why. Each is named once."""
+    def hold_overlooked(self, fail: Callable[[str], object]) -> None:
+        """Fails a test if nobody has read the verdict of a test case that ended with inconc, fail or error. Each is named once."""
         bad = [it for it in self.results if not it.is_seen and it.result.verdict in VERDICTS[2:]]
-        return "\n".join(f"{it.name} ended with {it.verdict}, and the test did not look at the verdict: {it.why}" for it in bad)
+        if bad:
+            fail("\n".join(f"{it.name} ended with {it.verdict}, and the test did not look at the verdict: {it.why}" for it in bad))
 
     def _own_name(self) -> str:
         """The name of the test; with a number, if the server had a test case of this name."""
@@ -92,15 +93,9 @@ class BenchCase(unittest.TestCase):
     def setUp(self) -> None:
         super().setUp()
         self.bench = Bench(self.server, self.id().rpartition(".")[2], self.limit)
-        self.addCleanup(self._hold_overlooked)
+        self.addCleanup(self.bench.hold_overlooked, self.fail)
 
     def assertVerdict(self, result: Result, verdict: str = "pass") -> None:
         """Fails the test, and shows the last entries, unless the result has this verdict."""
         if result.verdict != verdict:
             self.fail(f"the verdict {verdict} is wanted\n{result.report()}")
-
-    def _hold_overlooked(self) -> None:
-        """Fails a test that has not looked at a bad verdict."""
-        text = self.bench.overlooked()
-        if text:
-            self.fail(text)

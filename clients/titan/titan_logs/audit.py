@@ -1,11 +1,13 @@
-"""Audits test cases: one legal order of all calls that the logs show, or what keeps it from being one."""
+"""Audits test cases: one legal order of all calls that the logs show, or what keeps it from being one. The script of it, for `ttrun explore`."""
+import re
 from dataclasses import dataclass, field
 from typing import Iterator, List, Optional, Tuple
 
 from .cases import TestCase
-from .histories import Finding, block_of, verdict_of, why_none
+from .histories import Finding, block_of, call, first_said, why_none
 from .limits import MOST_NEXT, MOST_REMARKS
-from .search import FOUND, NONE, UNDECIDED, Answer, overall_of, search
+from .playing import played
+from .search import FOUND, NONE, UNDECIDED, Answer, search
 
 LEGAL, PART, DISAGREE, HIDDEN, OTHER_VERDICT, NO_ORDER, OPEN, REFUSED = (
     "legal", "legal as far as the logs go", "the logs disagree", "not judged", "another verdict", "no order was found", "undecided", "check refuses")
@@ -13,6 +15,9 @@ LEGAL, PART, DISAGREE, HIDDEN, OTHER_VERDICT, NO_ORDER, OPEN, REFUSED = (
 STATUS = {LEGAL: 0, PART: 1, DISAGREE: 1, HIDDEN: 3, OTHER_VERDICT: 1, NO_ORDER: 1, OPEN: 3, REFUSED: 3}
 # What is counted in the last line, and the columns of the table.
 COUNTED, COLUMNS = {it: it for it in STATUS}, ("test case", "log", "outcome", "calls", "states")
+# The line of a script above a step for a dynamic error. Titan ends only the component by it, and gives the test case the verdict error.
+ERROR = "  # a dynamic error of this component, which no script has: Titan's verdict is error"
+NO_MODEL = re.compile(r"ttrun: line (\d+): (no model of \w+: .*)")
 
 
 @dataclass
@@ -57,14 +62,15 @@ def remarks_on(case: TestCase, answer: Answer, overall: Optional[str]) -> Iterat
         yield f"{len(case.missing) - MOST_REMARKS} more are missing"
     if answer.outcome == FOUND and not is_hidden and overall != case.verdict and case.verdict is not None:
         yield f"the log says {case.verdict}, and this order gives {overall}"
-    if answer.outcome == FOUND and case.errors and verdict_of(case, answer.entries) != overall:
+    ends = played(case, answer.entries).overall()
+    if answer.outcome == FOUND and case.errors and ends != overall:
         yield (f"{case.errors} dynamic error{'s' * (case.errors > 1)} of a component, which ends only that component in Titan, is written"
-               f" as its kill: the history ends with {verdict_of(case, answer.entries)}, Titan with {case.verdict}")
+               f" as its kill: the history ends with {ends}, Titan with {case.verdict}")
 
 
 def why_not(answer: Answer) -> Iterator[str]:
     """How far an order goes, and which calls could not be next there."""
-    yield f"no order was found beyond {answer.taken} of the calls; there could not be next"
+    yield f"no order was found beyond {len(answer.steps)} of the calls; there could not be next"
     for call, reason in answer.stuck[:MOST_NEXT]:
         yield f"  {call.text()}: {reason} ({call.line})"
 
@@ -72,7 +78,8 @@ def why_not(answer: Answer) -> Iterator[str]:
 def audited(case: TestCase, states: int) -> Audit:
     """The audit of one test case, whose order is not yet shown to `ttrun check`."""
     answer = search(case, states)
-    overall = overall_of(answer.entries, case) if answer.outcome == FOUND else None
+    # The errors of parallel components count to the overall verdict.
+    overall = None if answer.outcome != FOUND else "error" if case.errors else played(case, answer.entries).overall()
     found = Audit(case, outcome_of(case, answer, overall), {}, [*remarks_on(case, answer, overall)], answer, overall)
     why = why_none(case)
     if answer.outcome != FOUND:
@@ -82,3 +89,37 @@ def audited(case: TestCase, states: int) -> Audit:
     else:
         found.blocks[""] = block_of(case, answer.entries)
     return found
+
+
+def behaviour(number: int) -> str:
+    return f"r{number}" if number else "main"
+
+
+def errors_in(case: TestCase) -> List[str]:
+    """The behaviours that ended with a dynamic error of their component."""
+    return [behaviour(run.number) for run in case.runs if any(it.is_error for it in run.calls)]
+
+
+def marked(lines: List[str], errors: List[str]) -> Iterator[str]:
+    """The lines of a script, with one above the last step of each behaviour that ended with a dynamic error."""
+    name = ""
+    for line in lines:
+        name = line.split()[1] if line.startswith("behaviour ") else name
+        yield from [ERROR] * (name in errors and line == "  kill self")
+        yield line
+
+
+def script_of(case: TestCase, states: int, program: str) -> Tuple[str, str]:
+    """What `ttrun model` writes of an order; or nothing, and why there is none: no order, no history of it, or a line that no script has."""
+    answer, why = search(case, states), why_none(case)
+    if why or answer.outcome != FOUND:
+        return "", why or f"no order was found beyond {len(answer.steps)} of the calls"
+    calls = [(entry, step.call) for step in answer.steps for entry in step.entries if not step.call.seen]
+    names = [f"behaviour {it.number} {behaviour(it.number)}" for it in case.runs]
+    head, *lines = block_of(case, [entry for entry, _ in calls]).splitlines()
+    ran = call(program, ["model"], "".join(f"{it}\n" for it in [head.replace("history 2", "evidence 1", 1), *names, *lines]))
+    none = NO_MODEL.fullmatch(ran.stderr.strip())
+    if none is None:
+        return "".join(f"{it}\n" for it in marked(ran.stdout.splitlines(), errors_in(case))), "" if ran.returncode == 0 else first_said(ran)
+    at = int(none[1]) - 2 - len(names)
+    return "", f"{none[2]}: {lines[at]}" + (f" ({calls[at][1].line})" if at < len(calls) else "")

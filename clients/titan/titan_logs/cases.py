@@ -38,11 +38,6 @@ class Call:
     def is_error(self) -> bool:
         return self.faulty is not None
 
-    @property
-    def may_be_void(self) -> bool:
-        """Whether it may have had no effect at all."""
-        return self.reply is None and self.channel is None
-
     def text(self) -> str:
         if self.channel is not None:
             return f"{self.run} {'sends to' if self.is_sent else 'receives from'} another"

@@ -14,7 +14,6 @@ from .histories import found_program, page_of, show_to_check
 from .limits import MOST_BYTES_OF_A_SCRIPT, MOST_STATES, MOST_TEST_CASES_OF_A_SCRIPT, STATES
 from .lines import Refused
 from .reading import read_case
-from .scripts import errors_in, script_of
 from .sessions import read_sessions
 from .table import VERDICTS
 
@@ -53,10 +52,10 @@ def parser() -> Parser:
         command = commands.add_parser(name, help=text, description=text, epilog=STATUSES, allow_abbrev=False)
         command.add_argument("logs", nargs="+", metavar="LOGS", help="a folder of logs, a log, or a file of ttcn3_logmerge")
         command.add_argument("--only", action="append", default=[], metavar="NAME", help="this test case, or NAME#2 for its second execution")
-        if name == "script":
-            continue
         command.add_argument("--states", type=states_of, default=STATES, metavar="N", help=f"how many states a search may look at ({STATES})")
         command.add_argument("--program", metavar="FILE", help="the program ttrun, if it is not found by itself")
+        if name == "script":
+            continue
         command.add_argument("--unchecked", action="store_true", help="does without ttrun: no history is shown to ttrun check")
         command.add_argument("--history", metavar="FILE", help="writes the orders that were found as histories")
         command.add_argument("--html", metavar="FILE", help="writes them as a page, which shows two of them side by side")
@@ -200,14 +199,14 @@ def run_judged(given: argparse.Namespace) -> int:
 
 
 def run_script(given: argparse.Namespace) -> int:
-    found = read(given)
-    scripts = [script_of(it) for it in found.cases]
+    program, found = found_program(given.program), read(given)
+    scripts = [audits.script_of(it, given.states, program) for it in found.cases]
     for case, (_, why) in zip(found.cases, scripts):
         said = [f"no script holds it: {why}"] if why else [
-            f"the error of {it} is written as its kill: explore cannot say error" for it in errors_in(case)]
+            f"the error of {it} is written as its kill: explore cannot say error" for it in audits.errors_in(case)]
         for it in said:
             print(CONTROL.sub("?", f"ttrun-titan: {case.title}: {it}"), file=sys.stderr)
-    texts = [text for text, _ in scripts if text is not None]
+    texts = [text for text, why in scripts if not why]
     if len(texts) > MOST_TEST_CASES_OF_A_SCRIPT or sum(map(len, texts)) > MOST_BYTES_OF_A_SCRIPT:
         raise Refused(f"a script holds {MOST_TEST_CASES_OF_A_SCRIPT} test cases and {MOST_BYTES_OF_A_SCRIPT} bytes: choose some with --only")
     sys.stdout.write("".join(texts))

@@ -4,9 +4,9 @@ from dataclasses import dataclass, field
 from typing import Dict, Iterator, List, Sequence, Set, Tuple
 
 from .cases import Call, Run, TestCase
-from .histories import Finding, block_of, side_by_side, verdict_of, why_none
+from .histories import Finding, block_of, side_by_side, why_none
 from .limits import MOST_REMARKS
-from .playing import Entry
+from .playing import Entry, played
 from .search import Verdicts, verdicts_of
 from .table import VERDICTS
 
@@ -79,7 +79,7 @@ def remarks_on(case: TestCase, found: Verdicts, others: Sequence[str]) -> Iterat
         yield f"the search met its limit after {found.states} states: other verdicts may exist"
     yield from case.remarks if others else ()
     if others and case.errors and "error" in found.witnesses:
-        ends = verdict_of(case, found.witnesses["error"])
+        ends = played(case, found.witnesses["error"]).overall()
         yield f"the error of a component is written as its kill: the history of error ends with {ends}"
     yield from cut_off(case)
 

@@ -11,8 +11,8 @@ from typing import Dict, Iterator, List, Optional, Sequence
 from .cases import TestCase
 from .limits import MOST_BYTES_OF_A_HISTORY, MOST_BYTES_OF_A_NAME, MOST_ROWS, SECONDS_OF_A_CALL
 from .lines import Refused
-from .playing import Entry
-from .table import MOST_BEHAVIOURS, MOST_COMPONENTS, Table
+from .playing import Entry, ends_its_run, played
+from .table import MOST_BEHAVIOURS, MOST_COMPONENTS, Op, Table
 
 COLUMN = 40
 LONGEST_ENTRY = 80
@@ -40,42 +40,30 @@ def call(program: str, words: Sequence[str], text: str) -> "subprocess.Completed
         raise Refused(f"{program} {' '.join(words)}: {error}") from error
 
 
-def batches(blocks: Sequence[str]) -> Iterator[List[int]]:
-    """The blocks in texts that the program reads: the places of those in one."""
-    held: List[int] = []
-    size = 0
-    for at, block in enumerate(blocks):
-        if held and size + len(block) > MOST_BYTES_OF_A_HISTORY:
-            yield held
-            held, size = [], 0
-        held.append(at)
-        size += len(block)
-    if held:
-        yield held
+def first_said(ran: "subprocess.CompletedProcess[str]") -> str:
+    return (ran.stderr.strip() or f"status {ran.returncode}").splitlines()[0]
 
 
 def checked(program: Optional[str], blocks: Sequence[str]) -> List[str]:
     """Of each block nothing if `ttrun check` found it legal, otherwise what it said; without a program nothing is asked."""
     said = [""] * len(blocks)
-    if program is None:
+    if program is None or not blocks:
         return said
-    for places in batches(blocks):
-        ran = call(program, ["check"], "".join(blocks[it] for it in places))
-        legal = [it for it in ran.stdout.splitlines() if LEGAL.fullmatch(it)]
-        if ran.returncode == 0 and len(legal) == len(places):
-            continue
-        for place in places:
-            alone = call(program, ["check"], blocks[place])
-            if alone.returncode != 0 or not LEGAL.fullmatch(alone.stdout.strip()):
-                said[place] = (alone.stdout.strip() or alone.stderr.strip() or f"status {alone.returncode}").splitlines()[-1]
+    ran = call(program, ["check", "--long"], "".join(blocks))
+    legal = [it for it in ran.stdout.splitlines() if LEGAL.fullmatch(it)]
+    if ran.returncode == 0 and len(legal) == len(blocks):
+        return said
+    for place, block in enumerate(blocks):
+        alone = call(program, ["check"], block)
+        if alone.returncode != 0 or not LEGAL.fullmatch(alone.stdout.strip()):
+            said[place] = (alone.stdout.strip() or alone.stderr.strip() or f"status {alone.returncode}").splitlines()[-1]
     return said
 
 
 def page_of(program: str, text: str) -> str:
     ran = call(program, ["report", "--html"], text)
     if not ran.stdout.lstrip()[:9].lower().startswith("<!doctype"):
-        said = (ran.stderr.strip() or f"status {ran.returncode}").splitlines()[0]
-        raise Refused(f"this ttrun writes no page: {said}; --history FILE keeps the histories")
+        raise Refused(f"this ttrun writes no page: {first_said(ran)}; --history FILE keeps the histories")
     return ran.stdout
 
 
@@ -120,16 +108,17 @@ def why_none(case: TestCase) -> str:
     return ""
 
 
-def verdict_of(case: TestCase, entries: Sequence[Entry]) -> str:
-    """The overall verdict that the table gives after these entries."""
-    table = Table(len(case.runs))
-    for entry in entries:
-        table.play(entry.run, entry.op)
-    return table.overall()
+def ends_of_halted(table: Table, entries: Sequence[Entry]) -> Iterator[Entry]:
+    """The end of each behaviour that was halted and has no entry after it: it calls nothing more."""
+    last = {it.run: it for it in entries}
+    for run in sorted(table.component_of_run):
+        if not table.is_going_on(run) and not (run in last and ends_its_run(last[run].op, last[run].reply, table.component_of_run[run])):
+            yield Entry(run, Op("finish"), "ended")
 
 
 def block_of(case: TestCase, entries: Sequence[Entry]) -> str:
-    lines = [f"history 2 {name_of(case)} {len(case.runs)}", *(it.text() for it in entries), f"end {verdict_of(case, entries)}"]
+    table = played(case, entries)
+    lines = [f"history 2 {name_of(case)} {len(case.runs)}", *(it.text() for it in [*entries, *ends_of_halted(table, entries)]), f"end {table.overall()}"]
     return "".join(f"{it}\n" for it in lines)
 
 

@@ -1,7 +1,7 @@
 """One call of a log on the component table: the entries that it is in a history, or why it cannot be next."""
 from bisect import bisect_left, insort
 from dataclasses import dataclass, field
-from typing import Dict, Iterator, List, NamedTuple, Optional, Tuple, Union
+from typing import Dict, Iterable, Iterator, List, NamedTuple, Optional, Tuple, Union
 
 from .cases import Call, Channel, TestCase
 from .table import Component, Op, Table
@@ -41,6 +41,12 @@ def state_of(table: Table) -> Tuple[Tuple[object, ...], ...]:
     return tuple((it.phase, it.run, it.is_excused, it.verdict) for it in table.components)
 
 
+def ends_its_run(op: Op, reply: Optional[str], component: int) -> bool:
+    """Whether a call with this reply, by a run on this component, ends the run, or is after its end."""
+    ends = op.verb in ("finish", "stopcase") or op.verb in ("stop", "kill") and op.target in (component, 0)
+    return ends or reply in (None, "ended") or (reply or "").startswith("error ")
+
+
 def is_over(table: Table) -> bool:
     return table.components[0].phase != "running"
 
@@ -66,6 +72,8 @@ def try_call(table: Table, call: Call) -> Union[List[Entry], Reason]:
     """The entries of a call that is next, or why it cannot be; the table stays as it is."""
     if call.channel is not None:
         return [] if table.is_going_on(call.run) else "table gives ended"
+    if call.reply == "ended" and call.run not in table.component_of_run:
+        return "its behaviour is not started"
     if not table.is_going_on(call.run):
         return [Entry(call.run, call.op, "ended")] if call.reply in (None, "ended") else "table gives ended"
     if call.reply == "ended":
@@ -79,9 +87,19 @@ def try_call(table: Table, call: Call) -> Union[List[Entry], Reason]:
     return f"table gives {reply}"
 
 
-def play(table: Table, entries: List[Entry]) -> None:
+def play(table: Table, entries: Iterable[Entry]) -> Table:
     for entry in entries:
         table.play(entry.run, entry.op)
+    return table
+
+
+def played(case: TestCase, entries: Iterable[Entry]) -> Table:
+    """The table after these entries."""
+    return play(Table(len(case.runs)), entries)
+
+
+def entries_of(steps: Iterable[Step]) -> List[Entry]:
+    return [entry for step in steps for entry in step.entries]
 
 
 class Trail:
@@ -151,6 +169,3 @@ class Trail:
 
     def state(self) -> Tuple[object, ...]:
         return tuple(self.places), state_of(self.table)
-
-    def entries(self) -> List[Entry]:
-        return [entry for step in self.steps for entry in step.entries]

@@ -7,6 +7,7 @@ from typing import Dict, List, Optional, Tuple
 from .cases import FOREVER, Call, Channel, Run, TestCase
 from .limits import MOST_BYTES_OF_A_NAME
 from .lines import Line
+from .playing import ends_its_run
 from .sessions import MAIN
 from .table import Op, Target, worst
 
@@ -481,12 +482,6 @@ def compare_finals(case: TestCase, own: Finals, told: Finals) -> None:
         case.faults.append("the main component's log has no local verdict of its own")
 
 
-def ends_itself(call: Call, component: int) -> bool:
-    """Whether the call ends its own behaviour, or is after its end."""
-    ends = call.op.verb in ("finish", "stopcase") or call.op.verb in ("stop", "kill") and call.op.target in (component, 0)
-    return ends or call.reply in (None, "ended") and call.channel is None or (call.reply or "").startswith("error ")
-
-
 def see_final(case: TestCase, reference: int, verdict: str, line: Line) -> None:
     """The local verdict at the end: an observation before the last halt of the component's last run."""
     number = 0 if reference == MAIN else case.numbers[reference]
@@ -504,7 +499,7 @@ def see_final(case: TestCase, reference: int, verdict: str, line: Line) -> None:
     if is_error:
         return
     at = len(run.calls)
-    while at > 0 and ends_itself(run.calls[at - 1], run.component):
+    while at > 0 and run.calls[at - 1].channel is None and ends_its_run(run.calls[at - 1].op, run.calls[at - 1].reply, run.component):
         at -= 1
     before = run.calls[at - 1] if at else None
     behind = run.calls[at] if at < len(run.calls) else None

@@ -3,10 +3,10 @@ verdict that they could have had in another order. Each process's own order is t
 from bisect import bisect_left
 from collections import defaultdict
 from dataclasses import dataclass, field
-from typing import Dict, Iterable, Iterator, List, Optional, Set, Tuple
+from typing import Dict, Iterable, Iterator, List, Set, Tuple
 
 from .cases import Call, TestCase
-from .playing import Entry, Step, Trail, is_over
+from .playing import Entry, Step, Trail, entries_of, is_over
 from .table import STATUSES, VERDICTS, Op
 
 FOUND, NONE, UNDECIDED = "found", "none", "undecided"
@@ -25,10 +25,13 @@ class Answer:
     """What a search came to: an order, or how far one goes, and which calls could not be next there and why."""
 
     outcome: str
-    entries: List[Entry] = field(default_factory=list)
+    steps: List[Step] = field(default_factory=list)
     states: int = 0
-    taken: int = 0
     stuck: List[Tuple[Call, str]] = field(default_factory=list)
+
+    @property
+    def entries(self) -> List[Entry]:
+        return entries_of(self.steps)
 
 
 Choice = Tuple[Call, List[Entry]]
@@ -110,13 +113,8 @@ class Touching:
             return False
         return not self.others_touch(trail, call.run, target)
 
-    def can_be_halted_before(self, trail: Trail, run: int) -> bool:
-        """Whether another run may halt this one, or end the test case, before this one is over by itself."""
-        component = trail.table.component_of_run[run]
-        return any(self.may_halt(trail, other, component) for other in self.halting if other != run)
-
     def may_halt(self, trail: Trail, other: int, component: int) -> bool:
-        """Whether the run has a call left that halts the component, with no wait for its end before it."""
+        """Whether the run has a call left that halts the component, or ends the test case, with no wait for its end before it."""
         begin = trail.places[other]
         first = min(next_at(self.halts[other].get(it, []), begin) for it in (component, "all", 0))
         if first == NEVER:
@@ -171,7 +169,8 @@ class Search:
         open_ones: List[Choice] = []
         void: List[Call] = []
         for call in self.heads():
-            void += [call] * call.may_be_void
+            # A call without an answer may have had no effect at all.
+            void += [call] * (call.reply is None and call.channel is None)
             entries = self.trail.attempt(call)
             if isinstance(entries, str):
                 continue
@@ -196,7 +195,7 @@ class Search:
             frame.tried += 1
             self.trail.take(*choice)
             if len(self.trail.steps) == self.total:
-                return Answer(FOUND, self.trail.entries(), self.states + 1, self.total)
+                return Answer(FOUND, self.trail.steps, self.states + 1)
             if self.dead and self.trail.state() in self.dead:
                 continue
             self.states += 1
@@ -222,7 +221,7 @@ class Search:
             self.trail.take(step.call, step.entries)
         tried = [(it, self.trail.attempt(it)) for it in self.heads()]
         stuck = [(it, why if isinstance(why, str) else "legal, and no order continues after it") for it, why in tried]
-        return Answer(outcome, self.trail.entries(), self.states, len(self.best), stuck)
+        return Answer(outcome, self.trail.steps, self.states, stuck)
 
 
 def search(case: TestCase, states: int) -> Answer:
@@ -233,16 +232,6 @@ def search(case: TestCase, states: int) -> Answer:
         return answer
     timed = Search(case, states, is_timed=True).run()
     return timed if timed.outcome == FOUND else Search(case, states, is_timed=False).run()
-
-
-def overall_of(entries: List[Entry], case: TestCase) -> Optional[str]:
-    """The overall verdict that the order gives, with the errors of parallel components."""
-    if case.errors:
-        return "error"
-    trail = Trail(case, [[] for _ in case.runs])
-    for entry in entries:
-        trail.table.play(entry.run, entry.op)
-    return trail.table.overall()
 
 
 @dataclass
@@ -285,7 +274,8 @@ class Orders:
         if call.reply is None or call.is_error:
             return False
         if call.op.verb == "setverdict":
-            if not self.touching.can_be_halted_before(self.trail, call.run):
+            component, touching = self.trail.table.component_of_run[call.run], self.touching
+            if not any(touching.may_halt(self.trail, other, component) for other in touching.halting if other != call.run):
                 return True
             return VERDICTS.index(call.op.verdict) <= VERDICTS.index(self.trail.table.overall())
         return self.touching.is_quiet(self.trail, call)
@@ -305,7 +295,7 @@ class Orders:
     def next_choices(self) -> Iterator[Choice]:
         """The same, none if the test case is over, or where this state was met before."""
         if is_over(self.trail.table):
-            self.found.witnesses.setdefault(self.overall(), self.trail.entries())
+            self.found.witnesses.setdefault(self.overall(), entries_of(self.trail.steps))
             return
         choices = self.choices()
         if len(choices) > 1:

@@ -38,6 +38,7 @@ fn is_new(rt: &impl Abort, pass: &Pass) {
 
 /// Run 1 sets a verdict.
 fn set_and_get(rt: &impl Abort, pass: &mut Pass) -> Result<(), Halt> {
+    pass.make_room(2);
     pass.set_verdict(UserVerdict::Inconc)?;
     is(rt, "get_verdict", pass.get_verdict()?, Verdict::Inconc);
     Ok(())

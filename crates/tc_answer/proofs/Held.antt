@@ -1,11 +1,7 @@
 -- How a page holds a text.
 use Rattle.std.{proofs.{Common.{ℕ, ◌≡◌, ◌∙◌, ◌==◌, ◌&&◌, not, nat_lt, Bool, true, false, if◌then◌else◌, List, [], ◌∷◌, ◌++◌, refl, ap, arith}, lemmas.Bool.Decides.nat_tests}, specs.List.list_all}
+use Rattle.tc_text.proofs.Lemmas.Digits.{both}
 use Rattle.tc_answer.specs.Page.{HoldsTexts, held, shown}
-
--- a test of all bytes that holds is one of each
-both : (a b : Bool) → (a && b) ≡ true → (a ≡ true) × (b ≡ true)
-both true b e = (refl, e)
-both false b e = absurd cc
 
 -- the bytes are not `<`
 abbrev AreTagless : List ℕ → Type 0

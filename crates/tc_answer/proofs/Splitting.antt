@@ -1,8 +1,6 @@
--- The end of the script of a text, byte by byte, and the text of a fault, by its place and its words.
-use Rattle.std.proofs.{Common.{ℕ, suc, ◌≡◌, ◌∙◌, ◌+◌, ◌<◌, ◌≤◌, ◌==◌, ◌&&◌, Bool, true, false, if◌then◌else◌, List, ◌∷◌, length, get_or, drop, sym, ap, refl}, lemmas.List.{drop_more, drop_all}}
-use Rattle.tc_text.specs.{Prelude.text_kind_text, declared.fault.TextFault.TextFault}
-use Rattle.tc_reader.specs.Prelude.{script_kind_text}
-use Rattle.tc_answer.{specs.{Fault.{number_of, run_fault_text}, Input.{begins_block, script_bytes}, Inside.{placed, words_of}, declared.fault.RunFault.RunFault}, proofs.Lemmas.Chosen.at_place}
+-- The end of the script of a text, byte by byte.
+use Rattle.std.proofs.{Common.{ℕ, suc, ◌≡◌, ◌∙◌, ◌+◌, ◌<◌, ◌≤◌, ◌==◌, ◌&&◌, Bool, true, false, if◌then◌else◌, List, ◌∷◌, length, get_or, drop, sym, ap}, lemmas.List.{drop_more, drop_all}}
+use Rattle.tc_answer.specs.Input.{begins_block, script_bytes}
 
 first_by : (begins : Bool) (b : ℕ) (bs : List ℕ) → (begins && begins_block (b ∷ bs)) ≡ true → script_bytes begins (b ∷ bs) ≡ 0
 unfolding script_bytes
@@ -31,14 +29,3 @@ unfolding script_bytes
 at_end text at begins over = ap (script_bytes begins) (drop_all at text over)
 
 pub ruleset splitting_rules = (ends_here, goes_on, at_end)
-
-pub by_parts : (fault : RunFault) → placed (number_of fault) (words_of fault) ≡ run_fault_text fault
-by_parts RunFault.TooLong = refl
-by_parts RunFault.Read = refl
-by_parts RunFault.Write = refl
-by_parts RunFault.NoMemory = refl
-by_parts (RunFault.Text (TextFault.At line kind)) = at_place line (text_kind_text kind)
-by_parts (RunFault.Text TextFault.NoMemory) = refl
-by_parts (RunFault.Script fault) = at_place fault.line (script_kind_text fault.kind)
-by_parts RunFault.StopOn = refl
-by_parts RunFault.Only = refl

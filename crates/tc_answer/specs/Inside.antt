@@ -1,10 +1,9 @@
 -- What the functions inside of this crate say, and those of the tasks above it, which no clause of the program names.
-use Rattle.std.specs.{Prelude.{ℕ, ◌≡◌, All, Bool, false, Option, Some, None, List, ◌++◌, map, codes, filter}, Fmt.decimal, List.AllZip}
-use Rattle.tc_reader.specs.Prelude.{Word, has_twice, script_kind_text, CampaignView, IsCase}
-use Rattle.tc_rules.specs.Prelude.{memory_text}
-use Rattle.tc_stream.specs.{declared.input.InputFault.InputFault, Prelude.{input_text, write_text}}
-use Rattle.tc_text.specs.{Prelude.text_kind_text, declared.fault.TextFault.TextFault}
-use Rattle.tc_command.specs.{Prelude.word_fault_text, declared.{task.Choice.Choice, word.WordFault.WordFault}}
+use Rattle.std.specs.{Prelude.{ℕ, ◌≡◌, All, Bool, false, List, ◌++◌, map, codes, filter}, Fmt.decimal, List.AllZip}
+use Rattle.tc_reader.specs.Prelude.{Word, has_twice, CampaignView, IsCase}
+use Rattle.tc_stream.specs.declared.input.InputFault.{InputFault}
+use Rattle.tc_text.specs.declared.fault.TextFault.{TextFault}
+use Rattle.tc_command.specs.declared.task.Choice.{Choice}
 use Rattle.tc_step.specs.Prelude.{ScriptView}
 use Rattle.tc_exec.specs.declared.test_case.Case.{Case}
 use Rattle.tc_answer.specs.{Choosing.{AreChosen, CaseView, is_asked, scripts_of}, declared.fault.RunFault.RunFault}
@@ -13,26 +12,9 @@ use Rattle.tc_answer.specs.{Choosing.{AreChosen, CaseView, is_asked, scripts_of}
 abbrev pub script_name : CaseView → Word
 script_name c = c.0
 
--- the words that name a fault
-abbrev pub words_of : RunFault → List ℕ
-words_of RunFault.TooLong = input_text InputFault.TooLong
-words_of RunFault.Read = input_text InputFault.Read
-words_of RunFault.Write = write_text
-words_of RunFault.NoMemory = memory_text
-words_of (RunFault.Text (TextFault.At line kind)) = text_kind_text kind
-words_of (RunFault.Text TextFault.NoMemory) = memory_text
-words_of (RunFault.Script fault) = script_kind_text fault.kind
-words_of RunFault.StopOn = word_fault_text WordFault.StopOn
-words_of RunFault.Only = word_fault_text WordFault.Only
-
 -- the number of a line
 unfoldable pub place_text : ℕ → List ℕ
 place_text line = codes "line " ++ (decimal line ++ codes ": ")
-
--- the words after the place, if there is one
-abbrev pub placed : Option ℕ → List ℕ → List ℕ
-placed None words = words
-placed (Some line) words = place_text line ++ words
 
 -- the fault for an input that could not be read whole
 abbrev pub of_input : InputFault → RunFault

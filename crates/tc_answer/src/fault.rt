@@ -1,7 +1,8 @@
 //! The faults of the program, and their lines on standard error.
-ghost use Rattle.std.specs.Prelude.{◌≡◌, ◌++◌, IfOk, OnOk, OnErr, Some};
+ghost use Rattle.std.specs.Prelude.{◌≡◌, ◌++◌, IfOk, IfErr, OnOk, OnErr, Some};
 ghost use Rattle.std.specs.Io.{StartsWith};
-ghost use Rattle.tc_answer.specs.{Fault.number_of, Fault.run_fault_line, Fault.run_fault_text, Fault.said, Inside.of_input as spec_input, Inside.of_text, Inside.place_text, Inside.placed, Inside.words_of, declared.fault.RunFault.RunFault};
+ghost use Rattle.tc_rules.specs.Prelude.{name_of, Verdict as AnyVerdict};
+ghost use Rattle.tc_answer.specs.{Fault.run_fault_line, Fault.run_fault_text, Fault.said, Inside.of_input as spec_input, Inside.of_text, Inside.place_text, declared.fault.RunFault.RunFault};
 
 use std::alloc::{AllocError, AllocFailed, Global};
 use std::fmt;
@@ -10,6 +11,7 @@ use tc_entry::NoMemory;
 use tc_reader::ScriptFault;
 use tc_stream::{InputFault, WriteFault};
 use tc_text::{TextFault, append_number, append_text};
+use tc_verdict::{Verdict, read_name};
 use thiserror::Error;
 
 /// Why a command was not carried out.
@@ -87,35 +89,6 @@ impl From<TextFault> for RunFault {
     }
 }
 
-impl RunFault {
-    // The number of the line that has the fault, if it is one of a line of the input.
-    fn line(&self) -> Option<usize>
-        ensures { result ≡ number_of self.now }
-    {
-        match self {
-            RunFault::Text(TextFault::At { line, .. }) => Some(*line),
-            RunFault::Script(fault) => Some(fault.line),
-            _ => None,
-        }
-    }
-
-    // The words that name the fault.
-    fn words(&self) -> &'static str
-        ensures { result.now ≡ words_of self.now }
-    {
-        match self {
-            RunFault::TooLong => InputFault::TooLong.text(),
-            RunFault::Read => InputFault::Read.text(),
-            RunFault::Write => WriteFault.text(),
-            RunFault::NoMemory | RunFault::Text(TextFault::NoMemory) => NoMemory.text(),
-            RunFault::Text(TextFault::At { kind, .. }) => kind.text(),
-            RunFault::Script(fault) => fault.kind.text(),
-            RunFault::StopOn => WordFault::StopOn.text(),
-            RunFault::Only => WordFault::Only.text(),
-        }
-    }
-}
-
 impl fmt::Display for RunFault {
     ghost output = { λ f. Some (run_fault_text f) };
 
@@ -144,26 +117,18 @@ pub fn append_place(out: &mut Vec<u8>, line: usize) -> Result<(), NoMemory>
     append_text(out, ": ")
 }
 
-// Appends the text of the fault; if memory runs out, a part of it.
-fn append_fault(out: &mut Vec<u8>, fault: &RunFault) -> Result<(), NoMemory>
-    ensures ok { OnOk result (out.new.items ≡ out.old.items ++ placed (number_of fault.now) (words_of fault.now)) }
-    ensures err { OnErr result (StartsWith out.new.items out.old.items) }
+/// The line with these words.
+pub fn line_with(alloc: Global, words: &str) -> Result<Vec<u8>, NoMemory>
+    ensures { IfOk result (λ v. v.items ≡ said words.now) }
 {
-    if let Some(line) = fault.line() {
-        append_place(out, line)?;
-    }
-    append_text(out, fault.words())
+    Ok(format!(in alloc; "ttrun: {words}\n")?.into_bytes())
 }
 
-// Appends the whole line; if memory runs out, a part of it.
-fn append_line(out: &mut Vec<u8>, fault: &RunFault) -> Result<(), NoMemory>
-    ensures ok { OnOk result (out.new.items ≡ out.old.items ++ said (placed (number_of fault.now) (words_of fault.now))) }
-    ensures err { OnErr result (StartsWith out.new.items out.old.items) }
+/// The fault's line on standard error, its line feed included.
+pub(crate) fn line_of(alloc: Global, fault: &RunFault) -> Result<Vec<u8>, NoMemory>
+    ensures { IfOk result (λ v. v.items ≡ run_fault_line fault.now) }
 {
-    append_text(out, "ttrun: ")?;
-    append_fault(out, fault)?;
-    out.push(b'\n')?;
-    Ok(())
+    Ok(format!(in alloc; "ttrun: {fault}\n")?.into_bytes())
 }
 
 /// Appends the fault's line on standard error, its line feed included, or nothing if memory runs out.
@@ -171,23 +136,18 @@ pub fn fault_line(fault: &RunFault, out: &mut Vec<u8>) -> Result<(), NoMemory>
     ensures ok { OnOk result (out.new.items ≡ out.old.items ++ run_fault_line fault.now) }
     ensures err { OnErr result (out.new.items ≡ out.old.items) }
 {
-    let start = out.len();
-    match append_line(out, fault) {
-        Ok(()) => Ok(()),
-        Err(error) => {
-            out.truncate(start);
-            Err(error)
-        }
-    }
+    let line = line_of(*out.allocator(), fault)?;
+    out.extend_from_slice(line.as_slice())?;
+    Ok(())
 }
 
-/// The line with these words.
-pub fn line_with(alloc: Global, words: &str) -> Result<Vec<u8>, NoMemory>
-    ensures { IfOk result (λ v. v.items ≡ said words.now) }
+/// The verdict of this name. It takes no memory.
+pub fn stop_word(word: &str) -> Result<Verdict, RunFault>
+    ensures taken { IfOk result (λ v. word.now ≡ name_of v) }
+    ensures refused { IfErr result (λ fault. (fault ≡ RunFault.StopOn) × ((v : AnyVerdict) → word.now ≡ name_of v → ⊥)) }
 {
-    let mut line = Vec::new(alloc);
-    append_text(&mut line, "ttrun: ")?;
-    append_text(&mut line, words)?;
-    line.push(b'\n')?;
-    Ok(line)
+    match read_name(word) {
+        Some(verdict) => Ok(verdict),
+        None => Err(RunFault::StopOn),
+    }
 }

@@ -1,14 +1,7 @@
 -- How many bytes of a block have come.
-use Rattle.std.{proofs.{Common.{ℕ, Bool, true, false, ◌≡◌, ◌≢◌, ◌==◌, ◌⊎◌, inl, inr, ◌&&◌, ◌∙◌, ◌+◌, ◌<◌, ◌≤◌, if◌then◌else◌, List, [], ◌∷◌, ◌++◌, ap, drop, get_or, length, subst, sym, take, refl, append_assoc}, lemmas.{Bool.{Decides.eqb_tells, eq-eqb, le-ltb, lt-ltb}, List.{append-nil, take-append-drop, take_more}}, Math.Seq.drop-cons}, specs.{Prelude.{nat_eq, nat_lt}, List.starts_with}}
+use Rattle.std.{proofs.{Common.{ℕ, Bool, true, false, ◌≡◌, ◌≢◌, ◌==◌, ◌⊎◌, inl, inr, ◌&&◌, ◌∙◌, ◌+◌, ◌<◌, ◌≤◌, if◌then◌else◌, List, [], ◌∷◌, ◌++◌, ap, drop, get_or, length, subst, sym, take, refl, append_assoc}, lemmas.{Bool.{Decides.eqb_tells, eq-eqb, le-ltb, lt-ltb}, List.{append-nil, take-append-drop, take_more}}, Math.Seq.drop-cons}, specs.Prelude.{nat_eq, nat_lt}}
 use native.Mathlib.Numerals.{unary_clauses}
 use Rattle.tc_blocks.specs.{Inside.{IsOpenAfter, is_due}, Limit.{blocks_fit, ends_block, may_come}, declared.limit.OpenBytes.OpenBytes}
-
--- what is due after a byte of which this word begins with the same or another
-pub due_next : (byte : ℕ) (word rest more : List ℕ) (first : ℕ) → word ≡ first ∷ rest → starts_with nat_eq (byte ∷ more) word ≡ (nat_eq first byte && starts_with nat_eq more rest)
-due_next byte word rest more first is = ap (starts_with nat_eq (byte ∷ more)) is
-
-pub due_none : (byte : ℕ) (word more : List ℕ) → word ≡ [] → starts_with nat_eq (byte ∷ more) word ≡ starts_with nat_eq more word
-due_none byte word more is = ap (starts_with nat_eq (byte ∷ more)) is ∙ ap (starts_with nat_eq more) (sym is)
 
 not_same : (a b : ℕ) → a ≢ b → (a == b) ≡ false
 not_same a b other = go (eqb_tells a b)

@@ -1,8 +1,8 @@
 -- The lines of entries and the last line of a block.
 use Rattle.std.proofs.Common.{ℕ, ◌≡◌, ◌↔◌, ◌∙◌, List, [], ◌∷◌, ◌++◌, codes, ap, sym, refl, append_assoc, arith, rules, subst, reverse}
 use Rattle.tc_rules.specs.Prelude.{Run, Verdict, name_of, Entry, Op, Fault, Reply, fault_name, overall, IsLegal}
-use Rattle.tc_text.{specs.{declared.short.ShortOp.ShortOp, Prelude.{lines_of, EndsMove, EndsLine, op_of, move_text, reply_text, IsReply}}, proofs.Lemmas.LinesOf.{NoLf, first_line, line_ended, no_lf-append, same_behind, move_plain, number_plain, some_move}}
-use Rattle.tc_blocks.specs.{HistoryBlock.{end_text, entry_text}, Inside.outcome_text, HistoryText.{IsUnnamed, IsEntry}, Laws.{LinesAreLegal, overall_of}, Line.{entries_of, entry_in}, declared.line.Line.Line}
+use Rattle.tc_text.{specs.{declared.short.ShortOp.ShortOp, Prelude.{lines_of, EndsMove, EndsLine, op_of, move_text, reply_text, IsReply}}, proofs.Lemmas.LinesOf.{NoLf, line_ended, no_lf-append, same_behind, move_plain, number_plain, some_move}}
+use Rattle.tc_blocks.{specs.{HistoryBlock.{end_text, entry_text}, Inside.outcome_text, HistoryText.{IsUnnamed, IsEntry}, Laws.{LinesAreLegal, overall_of}, Line.{entries_of, entry_in}, declared.line.Line.Line}, proofs.Lemmas.{Bytes.{BeginsWith, begins_with}, Notes.first_is}}
 
 pub verdict_plain : (v : Verdict) → NoLf (name_of v)
 verdict_plain Verdict.None = search rules
@@ -29,17 +29,8 @@ end_spelled text r1 r2 behind v word named ends =
     ∙ line_ended (end_text v) r2 behind (λ e. cc) (no_lf-append (codes "end ") (name_of v) (search rules) (verdict_plain v)) ends
 
 -- the text is that of a last line, and the line's end is after it
-pub record BeginsWithEnd (text : List ℕ) (v : Verdict) (others : List (List ℕ)) : Type 0 where
-  pub rest : List ℕ
-  pub behind : List ℕ
-  pub parts : text ≡ codes "end " ++ (name_of v ++ rest)
-  pub ends : EndsLine rest behind
-  pub lines : lines_of behind ≡ others
-
-pub begins_with_end : (text : List ℕ) (v : Verdict) (others : List (List ℕ)) → lines_of text ≡ end_text v ∷ others → BeginsWithEnd text v others
-begins_with_end text v others lines =
-    let begins = first_line text (end_text v) others lines in
-    record { rest = begins.rest; behind = begins.behind; parts = begins.parts ∙ end_assoc v begins.rest; ends = begins.ends; lines = begins.lines }
+pub begins_with_end : (text : List ℕ) (v : Verdict) (others : List (List ℕ)) → lines_of text ≡ end_text v ∷ others → BeginsWith text (λ rest. codes "end " ++ (name_of v ++ rest)) others
+begins_with_end text v others lines = begins_with text (end_text v) _ others (end_assoc v) lines
 
 pub behind_end : (xs ys : List ℕ) → codes "end " ++ xs ≡ codes "end " ++ ys → xs ≡ ys
 behind_end xs ys e = cc
@@ -68,20 +59,8 @@ entry_spelled text r1 r2 r3 behind f e moved arrow replied ends fits =
     (no_lf-append (move_text e.caller.0 e.op) _ (move_plain e.caller.0 e.op fits.caller fits.op) (no_lf-append (codes " -> ") (reply_text e.reply) (search rules) (reply_plain e.reply fits.reply))) ends
 
 -- the text is that of an entry, and the line's end is after it
-pub record BeginsWithEntry (text : List ℕ) (e : Entry) (others : List (List ℕ)) : Type 0 where
-  pub rest : List ℕ
-  pub behind : List ℕ
-  pub parts : text ≡ move_text e.caller.0 e.op ++ (codes " -> " ++ (reply_text e.reply ++ rest))
-  pub ends : EndsLine rest behind
-  pub lines : lines_of behind ≡ others
-
-pub begins_with_entry : (text : List ℕ) (e : Entry) (others : List (List ℕ)) → lines_of text ≡ entry_text e ∷ others → BeginsWithEntry text e others
-begins_with_entry text e others lines =
-    let begins = first_line text (entry_text e) others lines in
-    record { rest = begins.rest; behind = begins.behind; parts = begins.parts ∙ entry_assoc e begins.rest; ends = begins.ends; lines = begins.lines }
-
-first_is : (x y : ℕ) (xs ys : List ℕ) → x ∷ xs ≡ y ∷ ys → x ≡ y
-first_is x y xs ys e = cc
+pub begins_with_entry : (text : List ℕ) (e : Entry) (others : List (List ℕ)) → lines_of text ≡ entry_text e ∷ others → BeginsWith text (λ rest. move_text e.caller.0 e.op ++ (codes " -> " ++ (reply_text e.reply ++ rest))) others
+begins_with_entry text e others lines = begins_with text (entry_text e) _ others (entry_assoc e) lines
 
 second_is : (x y z : ℕ) (w : ℕ) (xs ys : List ℕ) → x ∷ y ∷ xs ≡ z ∷ w ∷ ys → y ≡ w
 second_is x y z w xs ys e = cc
@@ -105,17 +84,8 @@ outcome_spelled text r1 r2 behind r arrow replied ends fits =
     ap lines_of (arrow ∙ ap (λ l. codes " -> " ++ l) replied) ∙ line_ended (outcome_text r) r2 behind (λ e. cc) (outcome_plain r fits) ends
 
 -- the text begins with what follows a move, and the line's end is after it
-pub record BeginsWithOutcome (text : List ℕ) (r : Reply) (others : List (List ℕ)) : Type 0 where
-  pub rest : List ℕ
-  pub behind : List ℕ
-  pub parts : text ≡ codes " -> " ++ (reply_text r ++ rest)
-  pub ends : EndsLine rest behind
-  pub lines : lines_of behind ≡ others
-
-pub begins_with_outcome : (text : List ℕ) (r : Reply) (others : List (List ℕ)) → lines_of text ≡ outcome_text r ∷ others → BeginsWithOutcome text r others
-begins_with_outcome text r others lines =
-    let begins = first_line text (outcome_text r) others lines in
-    record { rest = begins.rest; behind = begins.behind; parts = begins.parts; ends = begins.ends; lines = begins.lines }
+pub begins_with_outcome : (text : List ℕ) (r : Reply) (others : List (List ℕ)) → lines_of text ≡ outcome_text r ∷ others → BeginsWith text (λ rest. codes " -> " ++ (reply_text r ++ rest)) others
+begins_with_outcome text r others lines = begins_with text (outcome_text r) _ others (λ rest. refl) lines
 
 -- the text begins with the move of the entry, and the rest of its line is after it
 pub record BeginsWithMove (text : List ℕ) (e : Entry) (others : List (List ℕ)) : Type 0 where
@@ -141,18 +111,14 @@ entry_and_outcome text rest after f e moved lines fits =
     let begins = begins_with_outcome rest e.reply (lines_of after) lines in
     entry_spelled text rest (reply_text e.reply ++ begins.rest) begins.rest begins.behind f e moved begins.parts refl begins.ends fits ∙ ap (λ l. entry_text e ∷ l) begins.lines
 
-abbrev make : Run → Op → Reply → Entry
-make run op reply = record { caller = run; op = op; reply = reply }
-
 pub same_entry : (run : Run) (op : Op) (reply : Reply) (e : Entry) → ◌≡◌ {A = Run × Op} (run, op) (e.caller, e.op) → reply ≡ e.reply → ◌≡◌ {A = Entry} (record { caller = run; op = op; reply = reply }) e
 same_entry run op reply e moved replied =
     let caller : run ≡ e.caller = ap (λ (p : Run × Op). p.0) moved in
     let operation : op ≡ e.op = ap (λ (p : Run × Op). p.1) moved in
-    ap (λ (x : Run). make x op reply) caller ∙ ap (λ (x : Op). make e.caller x reply) operation ∙ ap (λ (x : Reply). make e.caller e.op x) replied
+    rw (caller, operation, replied) refl
 
 pub same_parts : (run : Run) (op : Op) (reply : Reply) (e : Entry) → run.0 ≡ e.caller.0 → op ≡ e.op → reply ≡ e.reply → ◌≡◌ {A = Entry} (record { caller = run; op = op; reply = reply }) e
-same_parts run op reply e caller operation replied =
-    ap (λ (n : ℕ). make (record { 0 = n }) op reply) caller ∙ ap (λ (x : Op). make e.caller x reply) operation ∙ ap (λ (x : Reply). make e.caller e.op x) replied
+same_parts run op reply e caller operation replied = rw (caller, operation, replied) refl
 
 -- a short operation gives no component a name
 pub short_unnamed : (s : ShortOp) → IsUnnamed (op_of s)

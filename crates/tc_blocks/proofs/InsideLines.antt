@@ -2,7 +2,7 @@
 use Rattle.std.proofs.{Common.{ℕ, ◌≡◌, ◌≢◌, ◌∙◌, ◌+◌, ◌≤◌, List, [], ◌∷◌, ◌++◌, length, map, ap, sym, subst, refl, append_assoc, arith}, lemmas.List.{append-nil, length-append, map-append}}
 use Rattle.tc_rules.specs.Prelude.{Verdict}
 use Rattle.tc_text.{specs.Prelude.lines_of, proofs.Lemmas.LinesOf.some_line}
-use Rattle.tc_blocks.{specs.{HistoryBlock.end_text, Inside.{AreInside, IsBadInside, IsLineTakenBy, IsNext, IsNoLine, IsOpenTo, Remains}, Line.line_text, Met.AreMet, Text.{AreLines, IsLine}, declared.{header.{Header.Header, Kind.Kind}, line.Line.Line, met.MetRuns.MetRuns}}, proofs.Lemmas.Meeting.met_after}
+use Rattle.tc_blocks.{specs.{HistoryBlock.end_text, Inside.{AreAlike, AreInside, IsBadInside, IsLineTakenBy, IsNext, IsNoLine, IsOpenTo, Remains, TakesLineIn}, Line.line_text, Met.AreMet, Text.{AreLines, IsLine}, declared.{header.{Header.Header, Kind.Kind}, line.Line.Line, met.MetRuns.MetRuns, reading.OpenBlock.OpenBlock}}, proofs.Lemmas.Meeting.met_after}
 
 -- the first line is no last line of a block
 abbrev pub IsNoEndLine : List ℕ → Type 0
@@ -105,6 +105,15 @@ on_more opens kind n text first met met' met'' before value value' rest after li
       opened = λ at h inside block.
           open_more opens kind n at h (inside ++ so.taken) (inside ++ (so.taken ++ one.line ∷ [])) rest after line met' met'' value value' one (so.opened at h inside block) no_end (sym (append_assoc inside so.taken (one.line ∷ [])));
     }
+
+-- the same of open blocks
+pub on_more_in : {O : Type 0} (opens : ℕ → Header → List Line → O → Type 0) (text : List ℕ) (first : ℕ) (old block after : OpenBlock O) (rest behind : List ℕ) (line : ℕ) →
+    AreAlike old block × IsOnTo opens old.kind old.behaviours text first old.met old.begun rest line block.met block.begun → TakesLineIn opens rest line block after behind → IsNoEndLine rest →
+    AreAlike old after × IsOnTo opens old.kind old.behaviours text first old.met old.begun behind (line + 1) after.met after.begun
+on_more_in opens text first old block after rest behind line so one no_end = (
+  (one.0.0 ∙ so.0.0, one.0.1 ∙ so.0.1),
+  on_more opens old.kind old.behaviours text first old.met block.met after.met old.begun block.begun after.begun rest behind line so.1 (rw (so.0.0, so.0.1) at one.1) no_end,
+)
 
 -- or a line that may not come
 pub bad_inside : {O : Type 0} (opens : ℕ → Header → List Line → O → Type 0) (kind : Kind) (n : ℕ) (text : List ℕ) (first : ℕ) (met met' : MetRuns) (before value : O) (rest : List ℕ) (line : ℕ) →

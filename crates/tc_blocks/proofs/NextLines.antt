@@ -2,10 +2,7 @@
 use Rattle.std.{proofs.Common.{ℕ, ◌≡◌, ◌∙◌, ◌<◌, ◌^◌, Bool, true, false, Option, None, Some, MatchOption, List, ◌∷◌, length, ap, sym, subst, refl, arith}, specs.Borrow.Bor}
 use Rattle.tc_rules.specs.Prelude.{Run, IsName, Entry}
 use Rattle.tc_text.specs.Prelude.{lines_of}
-use Rattle.tc_blocks.{specs.{HistoryBlock.entry_text, HistoryText.IsEntry, Inside.{ArePlain, IsFound, IsNext, IsNoEntryLine, IsNone, IsNote, IsSaidBy, line_said}, Line.{is_met, line_text, naming_text, said_text}, Sentence.IsSentence, Text.{IsLine, format_of}, declared.{header.Kind.Kind, line.Line.Line}}, proofs.Lemmas.Notes.{entry_not_naming, entry_not_said, said_not_naming, sentence_plain}}
-
-head_is : (x y : List ℕ) (xs ys : List (List ℕ)) → x ∷ xs ≡ y ∷ ys → x ≡ y
-head_is x y xs ys e = cc
+use Rattle.tc_blocks.{specs.{HistoryBlock.entry_text, HistoryText.IsEntry, Inside.{ArePlain, IsFound, IsNext, IsNoEntryLine, IsNone, IsNote, IsSaidBy, line_said}, Line.{is_met, line_text, naming_text, said_text}, Sentence.IsSentence, Text.{IsLine, format_of}, declared.{header.Kind.Kind, line.Line.Line}}, proofs.{InsideLines.head_is, Lemmas.Notes.{entry_not_naming, entry_not_said, said_not_naming, sentence_plain}}}
 
 low : (k n : ℕ) → k < n → n < 2 ^ 16 → k < 2 ^ 32
 low k n few small = omega (arith, few, small)

@@ -35,8 +35,7 @@ abbrev make : Header → ℕ → List Line → Verdict → Block
 make h line inside v = record { header = h; first_line = line; lines = inside; verdict = v }
 
 same_block : (h : Header) (line : ℕ) (inside : List Line) (v : Verdict) (c : Block) → h ≡ c.header → line ≡ c.first_line → inside ≡ c.lines → v ≡ c.verdict → make h line inside v ≡ c
-same_block h line inside v c o p q r =
-    ap (λ x. make x line inside v) o ∙ (ap (λ x. make c.header x inside v) p ∙ (ap (λ x. make c.header c.first_line x v) q ∙ ap (λ x. make c.header c.first_line c.lines x) r))
+same_block h line inside v c o p q r = rw (o, p, q, r) refl
 
 -- the lines inside a block, as its first line says
 as_header : (kind : Kind) (n : ℕ) (h : Header) (inside : List Line) → kind ≡ h.kind → n ≡ h.behaviours → AreInside kind n inside → AreInside h.kind h.behaviours inside
@@ -104,11 +103,6 @@ pub with_none : {H O : Type 0} (stands : List Block → H → Type 0) (opens : �
     reading.block ≡ None → IsReadBy stands opens before reading → IsReadTo {O = O} stands opens (IsFirst reading.only_histories) before reading.made None reading.line
 with_none {H} {O} stands opens before reading none so =
     subst (λ (b : Option (OpenBlock O)). IsReadTo stands opens (IsFirst reading.only_histories) before reading.made b reading.line) none so
-
-pub with_block : {H O : Type 0} (stands : List Block → H → Type 0) (opens : ℕ → Header → List Line → O → Type 0) (before : List (List ℕ)) (reading : Reading H O) (block : OpenBlock O) →
-    reading.block ≡ Some block → IsReadBy stands opens before reading → IsReadTo stands opens (IsFirst reading.only_histories) before reading.made (Some block) reading.line
-with_block {H} {O} stands opens before reading block some so =
-    subst (λ (b : Option (OpenBlock O)). IsReadTo stands opens (IsFirst reading.only_histories) before reading.made b reading.line) some so
 
 -- ---- a block begins
 
@@ -316,10 +310,8 @@ bad_line stands opens may before text made line block (TextFault.At at TextKind.
     let inside = bad so.at p.header p.inside p.open_to in
     bad_line_refused may so.blocks so.at at p.header p.inside before text so.read p.header_is p.header_only p.lines_are
     (subst (λ (m : ℕ). IsBadInside p.header.kind m p.inside so.at text at) p.few (subst (λ (x : Kind). IsBadInside x block.behaviours p.inside so.at text at) p.kind_is inside))
-bad_line stands opens may before text made line block (TextFault.At at TextKind.Early) bad so = let p = so.place in absurd (bad so.at p.header p.inside p.open_to)
-bad_line stands opens may before text made line block (TextFault.At at TextKind.FirstLine) bad so = let p = so.place in absurd (bad so.at p.header p.inside p.open_to)
-bad_line stands opens may before text made line block (TextFault.At at TextKind.Move) bad so = let p = so.place in absurd (bad so.at p.header p.inside p.open_to)
 bad_line stands opens may before text made line block TextFault.NoMemory bad so = λ whole future is. tt
+bad_line stands opens may before text made line block _ bad so = let p = so.place in absurd (bad so.at p.header p.inside p.open_to)
 
 -- ---- part after part
 
@@ -417,11 +409,9 @@ fault_only may text (TextFault.At line kind) all bad is = absurd (by_rest kind b
     by_rest TextKind.Early [] lines fault = let before_is = sym (append-nil bad.before) ∙ lines in nothing all is.some (sym (fault (all, is.fits, before_is)) ∙ before_is)
     by_rest TextKind.FirstLine (next ∷ rest) lines fault = fault.1 (rest, (all, is.fits, append_assoc bad.before (next ∷ []) rest ∙ lines))
     by_rest TextKind.Entry (next ∷ rest) lines fault = fault.1 (rest, (all, is.fits, append_assoc bad.before (next ∷ []) rest ∙ lines))
-    by_rest TextKind.Early (next ∷ rest) lines fault = absurd fault
-    by_rest TextKind.FirstLine [] lines fault = absurd fault
-    by_rest TextKind.Entry [] lines fault = absurd fault
     by_rest TextKind.Move [] lines fault = absurd fault
     by_rest TextKind.Move (next ∷ rest) lines fault = absurd fault
+    by_rest _ _ lines fault = absurd fault
 
 pub whole_if : {H O : Type 0} (stands : List Block → H → Type 0) (opens : ℕ → Header → List Line → O → Type 0) (may : Header → Type 0) (text : List ℕ) (made : H) (line : ℕ) (block : Option (OpenBlock O)) →
     is_some block ≡ false → line ≢ 1 → IsReadTo stands opens may (lines_of text) made block line → IsWholeOf stands may text made

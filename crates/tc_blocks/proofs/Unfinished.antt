@@ -1,7 +1,7 @@
 -- Texts that come as bytes, part by part.
-use Rattle.std.{proofs.{Common.{ℕ, Bool, true, false, ◌≡◌, ◌≢◌, ◌==◌, ◌∙◌, ◌+◌, ◌-◌, ◌<◌, ◌≤◌, if◌then◌else◌, Option, None, Some, Result, Ok, Err, IfOk, IfErr, IfSome, List, [], ◌∷◌, ◌++◌, inr, length, take, drop, slice_index, ap, sym, subst, refl, append_assoc, arith}, lemmas.List.{append-nil, length-append, length-take-le, take-append-drop, take_more, take-take}, Math.Seq.take-append_seam}, specs.{Io.{KnownBytes.{Consumes, IsAtEnd}, StartsWith}, List.onto_first}}
+use Rattle.std.{proofs.{Common.{ℕ, Bool, true, false, ◌≡◌, ◌≢◌, ◌==◌, ◌∙◌, ◌+◌, ◌-◌, ◌<◌, ◌≤◌, if◌then◌else◌, Option, None, Some, Result, Ok, Err, IfOk, IfErr, IfSome, List, [], ◌∷◌, ◌++◌, length, take, drop, slice_index, ap, sym, subst, refl, append_assoc, arith}, lemmas.List.{append-nil, length-append, take-append-drop, take_more, take-take}, Math.Seq.take-append_seam}, specs.{Io.{KnownBytes.{Consumes, IsAtEnd}, StartsWith}, List.onto_first}}
 use Rattle.tc_text.{specs.{declared.fault.TextFault.TextFault, Prelude.lines_of}, proofs.Lemmas.LinesOf.no_line}
-use Rattle.tc_blocks.{specs.{Inside.{GoesOn, IsFirst, IsKnown, IsPending, IsConsumed, IsFitSoFar, IsReadBy, IsReadInto, IsWholeOf, Refuses, RefusesPart, TakesPart, most_of}, Limit.{IsPastLimit, IsInLimit, IsReadIn, blocks_fit}, Text.{IsFault, IsHeader, IsTextOf}, declared.{block.Block.Block, header.Header.Header, limit.{Extent.Extent, Limit.Limit, OpenBytes.OpenBytes}, line.Line.Line, reading.Reading.Reading}}, proofs.PartByPart.{as_first, fault_only, on_whole}}
+use Rattle.tc_blocks.{specs.{Inside.{GoesOn, IsFirst, IsKnown, IsPending, IsConsumed, IsFitSoFar, IsReadBy, IsReadInto, IsWholeOf, Refuses, RefusesPart, TakesPart, most_of}, Limit.{IsInLimit, IsReadIn, blocks_fit}, Text.{IsFault, IsHeader, IsTextOf}, declared.{block.Block.Block, header.Header.Header, limit.{Extent.Extent, Limit.Limit, OpenBytes.OpenBytes}, line.Line.Line, reading.Reading.Reading}}, proofs.PartByPart.{as_first, fault_only, on_whole}}
 
 -- ---- whole lines
 
@@ -133,42 +133,7 @@ fits_at_end : (limit : Limit) (text : List ℕ) (left : ℕ) (o : OpenBytes) →
 fits_at_end (Limit.Whole most) text left o counted fits = omega (arith, counted)
 fits_at_end (Limit.Blocks most) text left o counted fits = (omega (arith, counted), ap (blocks_fit most) (sym (append-nil text)) ∙ fits.comes [])
 
--- a text of which more bytes come than are left is longer than it may be
-longer : (limit : Limit) (text rest : List ℕ) (left : ℕ) → length text + left ≡ most_of limit → left < length rest → IsPastLimit limit (text ++ rest)
-longer (Limit.Whole most) text rest left counted more = omega (arith, counted, more, length-append text rest)
-longer (Limit.Blocks most) text rest left counted more = inr (omega (arith, counted, more, length-append text rest))
-
 -- ---- a read
-
-pub consumes_none : (input : Option (List ℕ)) → Consumes input input []
-consumes_none None = tt
-consumes_none (Some x) = refl
-
-pub end_consumed : (input now after : Option (List ℕ)) (text : List ℕ) (e : Extent) → IsConsumed input now text e → Consumes now after [] → IsConsumed input after text e
-end_consumed input now after text e so none = record {
-  consumed = subst (λ (x : List ℕ). Consumes input after x) (append-nil text) (consumes_two input now after text [] so.consumed none);
-  counted = so.counted;
-  fits = so.fits;
-}
-
-pub part_consumed : (input now after : Option (List ℕ)) (text part : List ℕ) (e next : Extent) → IsConsumed input now text e → Consumes now after part → next.limit ≡ e.limit → next.left + length part ≡ e.left
-    → IsFitSoFar e.limit (text ++ part) next.open → IsConsumed input after (text ++ part) next
-part_consumed input now after text part e next so takes same less fits = record {
-  consumed = consumes_two input now after text part so.consumed takes;
-  counted = ap (λ n. n + next.left) (length-append text part) ∙ (omega (arith, less) ∙ (so.counted ∙ ap most_of (sym same)));
-  fits = subst (λ (l : Limit). IsFitSoFar l (text ++ part) next.open) (sym same) fits;
-}
-
-pub left_exceeded : (input now : Option (List ℕ)) (text : List ℕ) (e : Extent) → IsConsumed input now text e → IfSome now (λ rest. e.left < length rest) → IfSome input (IsPastLimit e.limit)
-left_exceeded None now text e so more = tt
-left_exceeded (Some x) None text e so more = absurd so.consumed
-left_exceeded (Some x) (Some y) text e so more = subst (IsPastLimit e.limit) (sym so.consumed) (longer e.limit text y e.left so.counted more)
-
-pub part_exceeds : (input now after : Option (List ℕ)) (text part : List ℕ) (e : Extent) → IsConsumed input now text e → Consumes now after part → ((rest : List ℕ) → IsPastLimit e.limit (text ++ (part ++ rest))) → IfSome input (IsPastLimit e.limit)
-part_exceeds None now after text part e so takes long = tt
-part_exceeds (Some x) None after text part e so takes long = absurd so.consumed
-part_exceeds (Some x) (Some y) None text part e so takes long = absurd takes
-part_exceeds (Some x) (Some y) (Some z) text part e so takes long = subst (IsPastLimit e.limit) (sym (so.consumed ∙ ap (λ l. text ++ l) takes)) (long z)
 
 -- ---- a whole input
 

@@ -128,6 +128,15 @@ pub record AreTakenBy {O : Type 0} (opens : ℕ → Header → List Line → O �
   pub spelled : AreSpelled text taken end
   pub opened : (at : ℕ) (h : Header) (inside : List Line) → IsOpenTo opens kind n at h inside met before first → IsOpenTo opens kind n at h (inside ++ taken) met' after line
 
+-- both are open blocks of one kind, with as many behaviours
+abbrev pub AreAlike : {O : Type 0} → OpenBlock O → OpenBlock O → Type 0
+AreAlike {O} before after = (after.kind ≡ before.kind) × (after.behaviours ≡ before.behaviours)
+
+-- the first line was taken into the open block
+abbrev pub TakesLineIn : {O : Type 0} → (ℕ → Header → List Line → O → Type 0) → List ℕ → ℕ → OpenBlock O → OpenBlock O → List ℕ → Type 0
+TakesLineIn {O} opens text number before after rest =
+    AreAlike before after × IsLineTakenBy opens before.kind before.behaviours text number before.met after.met before.begun after.begun rest
+
 -- the text continues with lines inside a block, and then, in the line of this number, comes neither a line that may come nor the end of the block
 pub record IsBadInside (kind : Kind) (n : ℕ) (inside : List Line) (at : ℕ) (text : List ℕ) (line : ℕ) : Type 0 where
   pub all : List Line
@@ -144,10 +153,8 @@ pub record IsBadInside (kind : Kind) (n : ℕ) (inside : List Line) (at : ℕ) (
 -- the first fault of a text that continues inside a block that begins in this line
 abbrev pub IsInsideFault : Kind → ℕ → List Line → ℕ → List ℕ → TextFault → Type 0
 IsInsideFault kind n inside at text (TextFault.At line TextKind.Entry) = IsBadInside kind n inside at text line
-IsInsideFault kind n inside at text (TextFault.At line TextKind.Early) = ⊥
-IsInsideFault kind n inside at text (TextFault.At line TextKind.FirstLine) = ⊥
-IsInsideFault kind n inside at text (TextFault.At line TextKind.Move) = ⊥
 IsInsideFault kind n inside at text TextFault.NoMemory = Unit {0}
+IsInsideFault kind n inside at text fault = ⊥
 
 -- the first lines that the blocks of a text may have: if it has histories only, theirs
 abbrev pub IsFirst : Bool → (Header → Type 0)

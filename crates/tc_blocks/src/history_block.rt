@@ -1,10 +1,12 @@
 //! The history of a test case, and writing it.
 ghost use Rattle.std.specs.Prelude.{◌≡◌, ◌++◌, ◌∷◌, [], OnOk, OnErr};
 ghost use Rattle.std.specs.{Io.StartsWith, List.flat_map};
-ghost use Rattle.tc_blocks.specs.HistoryBlock.{history_text, end_text, entry_line, history_header_text};
+ghost use Rattle.tc_blocks.specs.HistoryBlock.{history_text, end_text, entry_line};
 
+use crate::header::Kind;
+use crate::write::append_first;
 use tc_entry::{Entry, Name, NoMemory, Sequence, Verdict};
-use tc_text::{append_number, append_text, write_move, write_reply};
+use tc_text::{append_text, write_move, write_reply};
 use tc_verdict::name as name_of;
 
 /// The history of a test case, as a text gave it.
@@ -22,19 +24,6 @@ pub struct History {
     pub entries: Sequence<Entry>,
     /// The overall verdict.
     pub verdict: Verdict,
-}
-
-// Appends the first line, in format 2; if memory runs out, a part of it.
-fn append_header(out: &mut Vec<u8>, name: &Name, behaviours: u16) -> Result<(), NoMemory>
-    ensures ok { OnOk result (out.new.items ≡ out.old.items ++ (history_header_text 2 name.now behaviours ++ (10 ∷ []))) }
-    ensures err { OnErr result (StartsWith out.new.items out.old.items) }
-{
-    append_text(out, "history 2 ")?;
-    out.extend_from_slice(name.bytes())?;
-    append_text(out, " ")?;
-    append_number(out, u64::from(behaviours))?;
-    out.push(b'\n')?;
-    Ok(())
 }
 
 /// Appends the line of the entry; if memory runs out, a part of it.
@@ -84,7 +73,7 @@ pub fn write_block(
     ensures err { OnErr result (out.new.items ≡ out.old.items) }
 {
     let start = out.len();
-    if append_header(out, name, behaviours).is_ok()
+    if append_first(out, Kind::History2, name, behaviours).is_ok()
         && append_entries(out, entries).is_ok()
         && append_end(out, verdict).is_ok()
     {

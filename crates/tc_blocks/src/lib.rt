@@ -4,7 +4,6 @@
 mod block;
 mod header;
 mod history_block;
-mod history_header;
 mod history_line;
 pub mod laws;
 mod limit;
@@ -20,14 +19,13 @@ mod taking;
 mod write;
 
 pub use block::Block;
-pub use header::{Header, Kind};
+pub use header::{FORMAT_1_BEHAVIOURS, Header, Kind};
 pub use history_block::{History, append_end, append_entries, write_block};
-pub use history_header::FORMAT_1_BEHAVIOURS;
 pub use limit::Limit;
 pub use line::Line;
 pub use met::MetRuns;
 pub use read::{read_evidence, read_evidence_into, read_history};
 pub use sentence::{SENTENCE_BYTES, Sentence};
 pub use source::read_evidence_from;
-pub use taking::{BegunBlock, TakesEvidence};
+pub use taking::TakesEvidence;
 pub use write::{append_first_line, append_line, append_said, append_whole_block};

@@ -153,8 +153,8 @@ impl Extent {
         ensures some { IfOk result (λ n. IfSome n (λ n. 0 < n)) }
         ensures counted { IfOk result (λ n. IfSome n (λ n. self.new.left + n ≡ self.old.left)) }
         ensures limit { self.new.limit ≡ self.old.limit }
-        ensures takes { IfOk result (λ n. IfSome n (λ n. (input : Option (List ℕ)) (text : List ℕ) → IsConsumed input (R.remaining reader.old) text self.old
-            → IsConsumed input (R.remaining reader.new) (text ++ take n room.new) self.new)) }
+        ensures takes { IfOk result (λ n. IfSome n (λ n. (input : Option (List ℕ)) (text : List ℕ)
+            → IsConsumed input (R.remaining reader.old) text self.old → IsConsumed input (R.remaining reader.new) (text ++ take n room.new) self.new)) }
         ensures none { IfOk result (λ n. IfNone n ((input : Option (List ℕ)) (text : List ℕ) → IsConsumed input (R.remaining reader.old) text self.old
             → IsConsumed input (R.remaining reader.new) text self.new)) }
         ensures end { IfOk result (λ n. IfNone n (IsAtEnd (R.remaining reader.new))) }

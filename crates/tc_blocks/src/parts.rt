@@ -32,7 +32,7 @@ impl<H: TakesEvidence + Drop> Reading<H> {
 fn take_inside<'a, H: TakesEvidence + Drop>(
     alloc: Global,
     reading: &mut Reading<H>,
-    block: OpenBlock<H::Begun>,
+    mut block: OpenBlock<H::Begun>,
     text: &'a [u8],
 ) -> Result<&'a [u8], TextFault>
     requires closed { reading.old.block ≡ None }
@@ -45,24 +45,13 @@ fn take_inside<'a, H: TakesEvidence + Drop>(
     ensures known { OnOk result (IsKnown reading.new.block) }
     ensures fault { IfErr result (Refuses H.stands H.opens (opened reading.old block) text.now) }
 {
-    let OpenBlock {
-        mut begun,
-        kind,
-        behaviours,
-        mut met,
-    } = block;
-    let first = reading.line;
-    let (line, end) = take_lines::<H>(alloc, kind, behaviours, &mut met, &mut begun, text, first)?;
+    let (line, end) = take_lines::<H>(alloc, &mut block, text, reading.line)?;
     let Some((verdict, rest)) = end else {
-        reading.block = Some(OpenBlock {
-            begun,
-            kind,
-            behaviours,
-            met,
-        });
+        reading.block = Some(block);
         reading.line = line;
         return Ok(b"");
     };
+    let OpenBlock { begun, .. } = block;
     reading.made.close(begun, line, verdict)?;
     reading.line = line + 1;
     Ok(rest)

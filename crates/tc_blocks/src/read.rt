@@ -1,6 +1,6 @@
 //! Reading blocks.
 ghost use Rattle.std.specs.Prelude.{◌≡◌, ◌<◌, ◌≤◌, ◌+◌, ℕ, List, length, IfOk, IfErr, OnOk, IfSome, MatchOption, MatchResult};
-ghost use Rattle.tc_blocks.specs.{Histories.AreHistories, Histories.IsHistoryHeader, Inside.AreTakenBy, Inside.IsFirst, Inside.IsFound, Inside.IsInsideFault, Inside.IsLineTakenBy, Inside.IsNoEntryLine, Inside.IsNoLine, Inside.IsOpenTo, Inside.IsWholeOf, Met.AreMet, Text.AreEvidence, Text.IsFault, Text.IsHeader, Text.IsLine, Text.format_of, declared.header.Header.Header};
+ghost use Rattle.tc_blocks.specs.{Histories.AreHistories, Histories.IsHistoryHeader, Inside.{AreAlike, AreTakenBy, IsFirst, IsFound, IsInsideFault, IsNoEntryLine, IsNoLine, IsOpenTo, IsWholeOf, TakesLineIn}, Met.AreMet, Text.AreEvidence, Text.IsFault, Text.IsHeader, Text.IsLine, Text.format_of, declared.header.Header.Header};
 
 use crate::History;
 use crate::block::{Block, histories_of};
@@ -10,7 +10,7 @@ use crate::line::Line;
 use crate::met::MetRuns;
 use crate::note::take_note;
 use crate::parts::{finish, take_part};
-use crate::reading::Reading;
+use crate::reading::{OpenBlock, Reading};
 use crate::taking::TakesEvidence;
 use std::alloc::Global;
 use tc_entry::{NoMemory, Sequence, Verdict};
@@ -35,32 +35,29 @@ fn take_other<'a>(
     }
 }
 
-// Takes the line that the text begins with, which has this number, if it may come inside such a block after lines that
-// are about these runs; gives what follows it.
+// Takes the line that the text begins with, which has this number, if it may come next inside the block; gives what
+// follows it.
 #[inline(never)]
 fn take_any_line<'a, H: TakesEvidence>(
     alloc: Global,
-    kind: Kind,
-    behaviours: u16,
-    met: &mut MetRuns,
-    begun: &mut H::Begun,
+    block: &mut OpenBlock<H::Begun>,
     text: &'a [u8],
     line: usize,
 ) -> Result<Option<&'a [u8]>, NoMemory>
-    requires { behaviours ≤ 256 }
-    ensures { IfOk result (λ found. MatchOption found (IsNoLine kind behaviours met.old text.now)
-        (λ rest. IsLineTakenBy H.opens kind behaviours text.now line met.old met.new begun.old begun.new rest.now)) }
+    ensures { IfOk result (λ found. MatchOption found (IsNoLine block.old.kind block.old.behaviours block.old.met text.now)
+        (λ rest. TakesLineIn H.opens text.now line block.old block.new rest.now)) }
 {
-    if let Some((entry, rest)) = take_entry_line(kind.format(), text) {
-        met.add_entry(&entry);
-        H::take_entry(begun, line, entry)?;
+    if let Some((entry, rest)) = take_entry_line(block.kind.format(), text) {
+        block.met.add_entry(&entry);
+        H::take_entry(&mut block.begun, line, entry)?;
         return Ok(Some(rest));
     }
-    let Some((other, rest)) = take_other(alloc, kind, behaviours, met, text)? else {
+    let found = take_other(alloc, block.kind, block.behaviours, &block.met, text)?;
+    let Some((other, rest)) = found else {
         return Ok(None);
     };
-    met.add_line(&other);
-    H::take(begun, line, other)?;
+    block.met.add_line(&other);
+    H::take(&mut block.begun, line, other)?;
     Ok(Some(rest))
 }
 
@@ -68,46 +65,41 @@ fn take_any_line<'a, H: TakesEvidence>(
 #[inline(always)]
 fn take_line<'a, H: TakesEvidence>(
     alloc: Global,
-    kind: Kind,
-    behaviours: u16,
-    met: &mut MetRuns,
-    begun: &mut H::Begun,
+    block: &mut OpenBlock<H::Begun>,
     text: &'a [u8],
     line: usize,
 ) -> Result<Option<&'a [u8]>, NoMemory>
-    requires { behaviours ≤ 256 }
-    ensures { IfOk result (λ found. MatchOption found (IsNoLine kind behaviours met.old text.now)
-        (λ rest. IsLineTakenBy H.opens kind behaviours text.now line met.old met.new begun.old begun.new rest.now)) }
+    ensures { IfOk result (λ found. MatchOption found (IsNoLine block.old.kind block.old.behaviours block.old.met text.now)
+        (λ rest. TakesLineIn H.opens text.now line block.old block.new rest.now)) }
 {
     let Some(((caller, short, reply), rest)) = take_short_line::<H>(text) else {
-        return take_any_line::<H>(alloc, kind, behaviours, met, begun, text, line);
+        return take_any_line::<H>(alloc, block, text, line);
     };
-    met.add_caller(caller);
-    H::take_short(begun, line, caller, short, reply)?;
+    block.met.add_caller(caller);
+    H::take_short(&mut block.begun, line, caller, short, reply)?;
     Ok(Some(rest))
 }
 
-// Takes the lines inside a block with which the text continues, up to the block's last line or the end of the text. Gives
+// Takes the lines inside the block with which the text continues, up to the block's last line or the end of the text. Gives
 // the number of the line that it came to, and if that is the last one, its verdict and what follows it.
 pub(crate) fn take_lines<'a, H: TakesEvidence>(
     alloc: Global,
-    kind: Kind,
-    behaviours: u16,
-    met: &mut MetRuns,
-    begun: &mut H::Begun,
+    block: &mut OpenBlock<H::Begun>,
     text: &'a [u8],
     first_line: usize,
 ) -> Result<(usize, Option<(Verdict, &'a [u8])>), TextFault>
-    requires few { behaviours ≤ 256 }
     requires room { first_line + length text.now ≤ usize.MAX }
-    requires met { (some : List Line) × AreMet met.old some }
-    ensures met { OnOk result ((some : List Line) × AreMet met.new some) }
-    ensures taken { IfOk result (λ r. AreTakenBy H.opens kind behaviours text.now first_line met.old met.new begun.old begun.new r.0 r.1) }
+    requires met { (some : List Line) × AreMet block.old.met some }
+    ensures met { OnOk result ((some : List Line) × AreMet block.new.met some) }
+    ensures alike { OnOk result (AreAlike block.old block.new) }
+    ensures taken { IfOk result (λ r. AreTakenBy H.opens block.old.kind block.old.behaviours text.now first_line block.old.met block.new.met
+        block.old.begun block.new.begun r.0 r.1) }
     ensures room { IfOk result (λ r. r.0 ≤ first_line + length text.now) }
     ensures behind { IfOk result (λ r. IfSome r.1 (λ end. r.0 + 1 + length end.1.now ≤ first_line + length text.now)) }
     ensures less { IfOk result (λ r. IfSome r.1 (λ end. length end.1.now < length text.now)) }
     ensures fault { IfErr result (λ e. (at : ℕ) (h : Header) (inside : List Line)
-        → IsOpenTo H.opens kind behaviours at h inside met.old begun.old first_line → IsInsideFault kind behaviours inside at text.now e) }
+        → IsOpenTo H.opens block.old.kind block.old.behaviours at h inside block.old.met block.old.begun first_line
+        → IsInsideFault block.old.kind block.old.behaviours inside at text.now e) }
 {
     let mut rest = text;
     let mut line = first_line;
@@ -115,7 +107,7 @@ pub(crate) fn take_lines<'a, H: TakesEvidence>(
         if let Some(end) = take_end_line(rest) {
             return Ok((line, Some(end)));
         }
-        let Some(behind) = take_line::<H>(alloc, kind, behaviours, met, begun, rest, line)? else {
+        let Some(behind) = take_line::<H>(alloc, block, rest, line)? else {
             return Err(TextFault::at(line, TextKind::Entry));
         };
         line += 1;

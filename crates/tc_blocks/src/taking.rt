@@ -66,16 +66,8 @@ pub trait TakesEvidence: Sized {
             → opens b.first_line b.header b.lines begun → stands blocks self.old → stands (blocks ++ b ∷ []) self.new) };
 }
 
-/// A block that is not read to its end.
-#[derive(Drop)]
-pub struct BegunBlock {
-    header: Header,
-    first_line: usize,
-    lines: Sequence<Line>,
-}
-
 impl TakesEvidence for Sequence<Block> {
-    type Begun = BegunBlock;
+    type Begun = Block;
 
     ghost opens = { λ first_line h lines o. (o.first_line ≡ first_line) × (o.header ≡ h) × (o.lines ≡ lines) };
 
@@ -85,29 +77,21 @@ impl TakesEvidence for Sequence<Block> {
         Sequence::new(Vec::new(alloc))
     }
 
-    fn start(alloc: Global, first_line: usize, header: Header) -> Result<BegunBlock, NoMemory> {
-        Ok(BegunBlock {
+    fn start(alloc: Global, first_line: usize, header: Header) -> Result<Block, NoMemory> {
+        Ok(Block {
             header,
             first_line,
             lines: Sequence::new(Vec::new(alloc)),
+            verdict: Verdict::None,
         })
     }
 
-    fn take(begun: &mut BegunBlock, _line: usize, taken: Line) -> Result<(), NoMemory> {
+    fn take(begun: &mut Block, _line: usize, taken: Line) -> Result<(), NoMemory> {
         begun.lines.push(taken)
     }
 
-    fn close(&mut self, begun: BegunBlock, _line: usize, verdict: Verdict) -> Result<(), NoMemory> {
-        let BegunBlock {
-            header,
-            first_line,
-            lines,
-        } = begun;
-        self.push(Block {
-            header,
-            first_line,
-            lines,
-            verdict,
-        })
+    fn close(&mut self, mut begun: Block, _line: usize, verdict: Verdict) -> Result<(), NoMemory> {
+        begun.verdict = verdict;
+        self.push(begun)
     }
 }

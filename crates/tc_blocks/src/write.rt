@@ -21,17 +21,31 @@ fn words_of(kind: Kind) -> &'static str
     }
 }
 
+/// Appends the first line of a block of this kind and name, which had that many behaviours; if memory runs out, a part of it.
+pub(crate) fn append_first(
+    out: &mut Vec<u8>,
+    kind: Kind,
+    name: &Name,
+    behaviours: u16,
+) -> Result<(), NoMemory>
+    ensures ok { OnOk result (out.new.items ≡ out.old.items
+        ++ with_lf (header_text (record { kind = kind; name = name.now; behaviours = behaviours }))) }
+    ensures err { OnErr result (StartsWith out.new.items out.old.items) }
+{
+    append_text(out, words_of(kind))?;
+    out.extend_from_slice(name.bytes())?;
+    append_text(out, " ")?;
+    append_number(out, u64::from(behaviours))?;
+    out.push(b'\n')?;
+    Ok(())
+}
+
 /// Appends the first line of a block; if memory runs out, a part of it.
 pub fn append_first_line(out: &mut Vec<u8>, header: &Header) -> Result<(), NoMemory>
     ensures ok { OnOk result (out.new.items ≡ out.old.items ++ with_lf (header_text header.now)) }
     ensures err { OnErr result (StartsWith out.new.items out.old.items) }
 {
-    append_text(out, words_of(header.kind))?;
-    out.extend_from_slice(header.name.bytes())?;
-    append_text(out, " ")?;
-    append_number(out, u64::from(header.behaviours))?;
-    out.push(b'\n')?;
-    Ok(())
+    append_first(out, header.kind, &header.name, header.behaviours)
 }
 
 // Appends the name of a run's behaviour; if memory runs out, a part of it.

@@ -54,10 +54,8 @@ fn table_with_room(alloc: Global, behaviours: u16) -> Result<Table, NoMemory>
     ensures room { IfOk result (λ t. behaviours ≤ t.room) }
 {
     let mut table = Table::new(alloc, behaviours)?;
-    match table.make_room(usize::from(behaviours) + 8) {
-        Ok(()) => Ok(table),
-        Err(NoMemory) => Err(NoMemory),
-    }
+    table.make_room(usize::from(behaviours) + 8)?;
+    Ok(table)
 }
 
 /// A place for the leaving of each run.
@@ -68,8 +66,7 @@ fn opening_places(alloc: Global, behaviours: u16) -> Result<Vec<Places>, NoMemor
         leave: true,
         wake: false,
     };
-    let places = vec![in alloc; opening; usize::from(behaviours)]?;
-    Ok(places)
+    Ok(vec![in alloc; opening; usize::from(behaviours)]?)
 }
 
 type Opening = (Table, Vec<Option<(Comp, Args)>>, Vec<Places>);
@@ -87,10 +84,8 @@ fn at_opening(alloc: Global, behaviours: u16) -> Result<Opening, NoMemory>
 {
     let places = opening_places(alloc, behaviours)?;
     let starts = no_starts(alloc, behaviours)?;
-    match table_with_room(alloc, behaviours) {
-        Ok(table) => Ok((table, starts, places)),
-        Err(NoMemory) => Err(NoMemory),
-    }
+    let table = table_with_room(alloc, behaviours)?;
+    Ok((table, starts, places))
 }
 
 /// The newest entry of a table that has one.
@@ -121,16 +116,14 @@ impl Book {
             ≡ replicate behaviours (record { leave = true; wake = false })) }
     {
         let words = Words::new(alloc, behaviours, keeper, board)?;
-        match at_opening(alloc, behaviours) {
-            Ok((table, starts, places)) => Ok(Book {
-                table,
-                starts,
-                places,
-                count: usize::from(behaviours),
-                words,
-            }),
-            Err(NoMemory) => Err(NoMemory),
-        }
+        let (table, starts, places) = at_opening(alloc, behaviours)?;
+        Ok(Book {
+            table,
+            starts,
+            places,
+            count: usize::from(behaviours),
+            words,
+        })
     }
 
     /// Adds a call to the history, and returns its reply. The word of a run that it starts is begun, and those of the

@@ -13,7 +13,7 @@ use crate::pass::Pass;
 use crate::run_hand::RunHand;
 use crate::shared::Shared;
 use crate::ticket::Ticket;
-use std::alloc::{AllocError, Global};
+use std::alloc::Global;
 use std::sync::{Arc, Wait};
 use tc_board::{Board, Hand, Keeper};
 use tc_entry::Entry;
@@ -26,15 +26,6 @@ fn place(alloc: Global) -> Result<Vec<Entry>, NoMemory>
     ensures room { IfOk result (λ v. vec_len v < vec_capacity v) }
 {
     Vec::with_capacity(alloc, 8).map_err(|_| NoMemory)
-}
-
-fn another(board: &Arc<Board>) -> Result<Arc<Board>, NoMemory>
-    ensures { IfOk result (λ b. arc_value b ≡ arc_value board.now) }
-{
-    match Arc::try_clone(board) {
-        Ok(board) => Ok(board),
-        Err(AllocError) => Err(NoMemory),
-    }
 }
 
 /// The ticket of a run above 0, whose hand has met nothing yet.
@@ -50,7 +41,7 @@ fn ticket_of(
     requires hand { hand ≡ record { board = arc_value board.now; run = run.0; answers = [] } }
     ensures { IfOk result (λ t. t ≡ run) }
 {
-    let hand = RunHand::new(another(board)?, hand);
+    let hand = RunHand::new(Arc::try_clone(board)?, hand);
     let log = place(alloc)?;
     Ok(Ticket::new(shared.another()?, run, log, hand))
 }
@@ -88,25 +79,9 @@ fn main_pass(
     requires hand { hand ≡ new_hand (arc_value board.now) 0 }
     ensures { IfOk result (λ p. p ≡ record { run = record { 0 = 0 }; me = record { 0 = 0 }; args = []; log = [] }) }
 {
-    let hand = RunHand::new(another(board)?, hand);
+    let hand = RunHand::new(Arc::try_clone(board)?, hand);
     let log = Log::new(Started::at_opening(), place(alloc)?, hand);
     Ok(Pass::new(shared.another()?, log))
-}
-
-/// The shared book of a case at its opening.
-fn shared_book(
-    alloc: Global,
-    behaviours: u16,
-    keeper: Keeper,
-    board: &Arc<Board>,
-) -> Result<Shared, NoMemory>
-    requires some { 1 ≤ behaviours }
-    requires few { behaviours ≤ BEHAVIOURS }
-    requires keeper { keeper ≡ new_keeper (arc_value board.now) behaviours }
-    ensures { IfOk result (λ s. waiting_places s ≡ behaviours) }
-{
-    let book = Book::new(alloc, behaviours, keeper, another(board)?)?;
-    Shared::new(alloc, book, behaviours)
 }
 
 /// Opens a case with the hands of a new board.
@@ -125,7 +100,8 @@ fn open_with(
     ensures count { IfOk result (λ r. length r.2.items + 1 ≡ behaviours) }
     ensures tickets { IfOk result (λ r. (k : ℕ) (d : Run) → k + 1 < behaviours → (slice_index_or r.2.items k d).0 ≡ k + 1) }
 {
-    let shared = shared_book(alloc, behaviours, keeper, board)?;
+    let book = Book::new(alloc, behaviours, keeper, Arc::try_clone(board)?)?;
+    let shared = Shared::new(alloc, book, behaviours)?;
     let hand = hands.remove(0);
     let pass = main_pass(alloc, &shared, board, hand)?;
     let tickets = tickets_of(alloc, &shared, board, hands, behaviours)?;
@@ -141,9 +117,7 @@ pub fn open_case(alloc: Global, behaviours: u16) -> Result<(Shared, Pass, Vec<Ti
     ensures tickets { IfOk result (λ r. (k : ℕ) (d : Run) → k + 1 < behaviours → (slice_index_or r.2.items k d).0 ≡ k + 1) }
 {
     let (board, keeper, mut hands) = Board::new(alloc, behaviours)?;
-    let Ok(board) = Arc::new(alloc, board) else {
-        return Err(NoMemory);
-    };
+    let board = Arc::new(alloc, board)?;
     let opened = open_with(alloc, behaviours, keeper, &board, &mut hands);
     drop(hands);
     drop(board);
@@ -162,5 +136,6 @@ pub fn close_case<R: Wait>(
     ensures runs { result ≡ Err CloseFault.NoMemory → IsOneEach (length lefts.items) lefts.items }
     ensures report { IfOk result (λ c. IsOneHistory c) }
 {
-    shared.close(rt, alloc, lefts)
+    let look = shared.look(rt);
+    look.close(alloc, lefts)
 }

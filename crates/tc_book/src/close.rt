@@ -69,12 +69,7 @@ fn is_placed(starts: &[Option<(Comp, Args)>], left: &Left) -> bool
 fn all_placed(starts: &[Option<(Comp, Args)>], lefts: &[Left]) -> bool
     ensures { IsTrue result ↔ All (IsPlaced starts.now) lefts.now }
 {
-    for left in lefts {
-        if !is_placed(starts, left) {
-            return false;
-        }
-    }
-    true
+    lefts.iter().all(|left| is_placed(starts, left))
 }
 
 /// Whether one of each run came back, as it was started.
@@ -102,10 +97,5 @@ fn is_agreed(words: &Words, left: &Left) -> bool
 pub(crate) fn all_agreed(words: &Words, lefts: &[Left]) -> bool
     ensures { IsTrue result ↔ All (IsAgreed words.now) lefts.now }
 {
-    for left in lefts {
-        if !is_agreed(words, left) {
-            return false;
-        }
-    }
-    true
+    lefts.iter().all(|left| is_agreed(words, left))
 }

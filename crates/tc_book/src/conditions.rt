@@ -1,11 +1,11 @@
-//! The conditions that the runs of a case wait on.
-ghost use Rattle.std.specs.Prelude.{◌≡◌, ◌<◌, ℕ, IfOk, length, slice_index_or};
+//! The conditions that the runs of a case wait on, and whom a change wakes.
+ghost use Rattle.std.specs.Prelude.{◌≡◌, ◌<◌, ℕ, IfOk, length, slice_index_or, true};
 ghost use Rattle.tc_book.specs.declared.conditions.condition.Condition.{Condition};
 
 pub(crate) mod condition;
 
+use crate::book::Book;
 use crate::conditions::condition::Condition;
-use crate::logged_book::LoggedBook;
 use crate::told::Told;
 use std::alloc::Global;
 use tc_verdict::{NoMemory, Run};
@@ -37,7 +37,7 @@ impl Conditions {
     }
 
     /// Wakes each run that waits and can continue now.
-    pub(crate) fn tell(&self, book: &LoggedBook) -> Told
+    pub(crate) fn tell(&self, book: &Book) -> Told
         ensures { result.runs ≡ length self.now.of_runs.items }
     {
         let mut told = Told::nobody();
@@ -45,5 +45,30 @@ impl Conditions {
             told = condition.tell(book, told);
         }
         told
+    }
+}
+
+/// Whether somebody who waits can continue. It is no `Drop`: its holder gives it to those that wait.
+pub(crate) struct WakeUp {
+    anyone: bool,
+}
+
+impl WakeUp {
+    pub(crate) fn new(anyone: bool) -> WakeUp
+        ensures { result.anyone ≡ anyone }
+    {
+        WakeUp { anyone }
+    }
+
+    /// Wakes each run that waits and can continue now, if there may be one.
+    pub(crate) fn give(self, waiting: &Conditions, book: &Book) -> Told
+        ensures { self.anyone ≡ true → result.runs ≡ length waiting.now.of_runs.items }
+    {
+        let WakeUp { anyone } = self;
+        if anyone {
+            waiting.tell(book)
+        } else {
+            Told::nobody()
+        }
     }
 }

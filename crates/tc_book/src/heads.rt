@@ -1,11 +1,40 @@
-//! The verdict entries at the head of a log, and those replied Ended.
+//! What one entry is to the merge, the verdict entries at the head of a log, and those replied Ended.
 ghost use Rattle.std.specs.Prelude.{◌≡◌, ◌++◌, OnOk, filter};
 ghost use Rattle.tc_rules.specs.Merge as rules;
 ghost use Rattle.tc_book.specs.Inside.Merging.{AreAfterOther};
 
-use crate::entries::{is_late, is_other};
-use tc_entry::Entry;
+use tc_entry::{Entry, Op, Reply, Run};
 use tc_verdict::NoMemory;
+
+fn is_verdict_call(op: &Op) -> bool
+    ensures { result ≡ rules.is_verdict_call op.now }
+{
+    matches!(op, Op::SetVerdict(_) | Op::GetVerdict)
+}
+
+/// Whether the entry is no verdict entry.
+fn is_other(entry: &Entry) -> bool
+    ensures { result ≡ rules.is_other entry.now }
+{
+    !is_verdict_call(&entry.op)
+}
+
+/// Whether the entry is a verdict entry replied Ended.
+fn is_late(entry: &Entry) -> bool
+    ensures { result ≡ rules.is_late entry.now }
+{
+    is_verdict_call(&entry.op) && entry.reply.is_ended()
+}
+
+/// The run that a Start replied Ok starts.
+pub(crate) fn started(entry: &Entry) -> Option<Run>
+    ensures { result ≡ rules.started entry.now }
+{
+    match (&entry.op, entry.reply) {
+        (Op::Start { run, .. }, Reply::Ok) => Some(*run),
+        _ => None,
+    }
+}
 
 /// What follows the first other entry of a log.
 pub(crate) fn after_other(log: &[Entry]) -> &[Entry]

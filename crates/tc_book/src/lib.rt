@@ -7,7 +7,6 @@ mod case;
 mod close;
 mod conditions;
 mod counting;
-mod entries;
 mod halt;
 mod heads;
 pub mod laws;
@@ -24,7 +23,6 @@ mod starts;
 mod ticket;
 mod told;
 mod until;
-mod wake_up;
 mod walk;
 mod words;
 

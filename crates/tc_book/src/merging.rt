@@ -5,8 +5,7 @@ ghost use Rattle.tc_rules.specs.Merge as rules;
 ghost use Rattle.tc_book.specs.{Inside.Merging.head_at_start, Inside.Merging.placed, OneCase.AreOfOneCase, Inside.Merging.Has};
 
 use crate::by_run::{at_run, entry_count, logs_by_run, move_on};
-use crate::entries::started;
-use crate::heads::{add_head, add_late};
+use crate::heads::{add_head, add_late, started};
 use std::alloc::Global;
 use tc_entry::{Entry, Run};
 use tc_rules::RunLog;

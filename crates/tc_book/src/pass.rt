@@ -82,6 +82,15 @@ impl Pass {
         self.log.entries()
     }
 
+    /// Makes room in the log for that many calls, so that it need not grow at each. Only a hint: without the memory, each
+    /// call makes the room that it needs.
+    pub fn make_room(&mut self, calls: usize)
+        ensures { self.new ≡ self.old }
+    {
+        // As many more as each call makes.
+        let _ = self.log.make_room(calls.saturating_add(3));
+    }
+
     /// The run's hand on the verdict board: it met the word of the run, and then had the answers of the log's verdict
     /// entries. So each step on the word has its entry, and each entry its step.
     pub fn hand(&self) -> &Hand
@@ -227,7 +236,7 @@ impl Pass {
         if self.log.is_ended() {
             return Err(Halt::Ended);
         }
-        if self.log.make_room().is_err() {
+        if self.log.make_room(3).is_err() {
             return Err(Halt::NoMemory);
         }
         match heard(self.log.set_verdict(value))? {
@@ -243,7 +252,7 @@ impl Pass {
         if self.log.is_ended() {
             return Err(Halt::Ended);
         }
-        if self.log.make_room().is_err() {
+        if self.log.make_room(3).is_err() {
             return Err(Halt::NoMemory);
         }
         match heard(self.log.get_verdict())? {

@@ -1,17 +1,17 @@
 //! The lock and the conditions of a case: each entry but those of verdict calls is added in one hold.
-ghost use Rattle.std.specs.{Prelude.{◌≡◌, ◌≢◌, ◌≤◌, ◌<◌, ◌+◌, ◌||◌, true, false, IfOk, OnOk, OnErr, IfErr, IfSome, IfNone, IsTrue, Err, All, is_none, length}, Sync.Mutex.mutex_guard_value};
+ghost use Rattle.std.specs.{Prelude.{◌≡◌, ◌≢◌, ◌≤◌, ◌<◌, ◌+◌, ◌||◌, true, false, IfOk, OnOk, OnErr, IfErr, IfSome, IfNone, IsTrue, Err, All, is_none}, Sync.Mutex.mutex_guard_value};
 ghost use Rattle.tc_rules.specs.Prelude.{IsOneHistory, IsLegal, is_ended, is_fault, is_ok, is_verdict_call};
 ghost use Rattle.tc_board.specs.{Prelude.answered, declared.answer.Answer.TheVariants.Met};
-ghost use Rattle.tc_book.specs.{Closing.IsAgreed, Closing.IsMerged, Closing.IsOneEach, Closing.IsWhole, Closing.merged, Inside.Waiting.waiting_places, Inside.goes_on, Inside.is_closed, Inside.with_own, OpenCase.AreOthers, OpenCase.has_leave, OpenCase.open_past, Inside.Replies.suits};
+ghost use Rattle.tc_book.specs.{Closing.IsAgreed, Closing.IsMerged, Closing.IsOneEach, Closing.merged, Inside.Waiting.waiting_places, Inside.goes_on, Inside.is_closed, Inside.with_own, OpenCase.AreOthers, OpenCase.has_leave, OpenCase.open_past, Inside.Replies.suits};
 
 use crate::book::Book;
 use crate::conditions::Conditions;
 use crate::left::Left;
 use crate::logged_book::log::Log;
-use crate::logged_book::{GivenUp, LoggedBook, Started, Unstarted};
+use crate::logged_book::{GivenUp, Started, Unstarted};
 use crate::run_hand::RunHand;
 use crate::until::{Lack, Until};
-use std::alloc::{AllocError, Global};
+use std::alloc::Global;
 use std::marker::Model;
 use std::sync::{Arc, Mutex, MutexGuard, Wait};
 use tc_entry::{Op, Reply, Target};
@@ -20,14 +20,14 @@ use tc_verdict::{NoMemory, Run};
 
 #[derive(Drop)]
 struct Held {
-    book: Mutex<LoggedBook>,
+    book: Mutex<Book>,
     changed: Conditions,
 }
 
 /// A look at the book of a case, which nobody changes meanwhile. Contracts see the book.
 #[derive(Drop)]
 pub struct Look<'b> {
-    book: MutexGuard<'b, LoggedBook>,
+    book: MutexGuard<'b, Book>,
 }
 
 impl<'b> Model for Look<'b> {
@@ -36,7 +36,7 @@ impl<'b> Model for Look<'b> {
 
     ghost Value = { OpenCase };
 
-    ghost view = { λ l. (mutex_guard_value l.book).book };
+    ghost view = { λ l. mutex_guard_value l.book };
 }
 
 impl Look<'_> {
@@ -76,29 +76,27 @@ impl Shared {
         ensures { IfOk result (λ s. waiting_places s ≡ behaviours) }
     {
         let held = Held {
-            book: Mutex::new(LoggedBook::new(book)),
+            book: Mutex::new(book),
             changed: Conditions::new(alloc, behaviours)?,
         };
-        match Arc::new(alloc, held) {
-            Ok(held) => Ok(Shared { held }),
-            Err(_) => Err(NoMemory),
-        }
+        Ok(Shared {
+            held: Arc::new(alloc, held)?,
+        })
     }
 
     /// Another owner of the same book.
     pub(crate) fn another(&self) -> Result<Shared, NoMemory>
         ensures { IfOk result (λ s. waiting_places s ≡ waiting_places self.now) }
     {
-        match Arc::try_clone(&self.held) {
-            Ok(held) => Ok(Shared { held }),
-            Err(AllocError) => Err(NoMemory),
-        }
+        Ok(Shared {
+            held: Arc::try_clone(&self.held)?,
+        })
     }
 
     /// The book, once the run continues that waits for this on its own condition.
-    fn wait<R: Wait>(&self, rt: &R, run: Run, until: Until) -> MutexGuard<'_, LoggedBook>
+    fn wait<R: Wait>(&self, rt: &R, run: Run, until: Until) -> MutexGuard<'_, Book>
         requires { run.0 < waiting_places self.now }
-        ensures { IsTrue (goes_on (mutex_guard_value result).book run until) }
+        ensures { IsTrue (goes_on (mutex_guard_value result) run until) }
     {
         let book = self.held.book.lock(rt);
         self.held.changed.of(run).wait(rt, book, until)
@@ -115,11 +113,14 @@ impl Shared {
         ensures refused { OnErr result (log.new.entries ≡ log.old.entries) }
         ensures refused_room { OnErr result (log.old.room ≤ log.new.room) }
     {
-        // Memory for the log is taken before the lock is, so that no run waits for it.
-        log.make_room()?;
+        // The log gets its places and its own copy of the operation outside of the hold, so that no run waits for them.
+        log.make_room(3)?;
+        let logged = op.copy();
         let mut book = self.held.book.lock(rt);
-        let (reply, wake_up) = book.call(op, log)?;
+        let (reply, wake_up) = book.make(log.run(), op)?;
         wake_up.give(&self.held.changed, &book);
+        drop(book);
+        log.add(logged, reply);
         Ok(reply)
     }
 
@@ -134,7 +135,7 @@ impl Shared {
         ensures room { log.new.room + 1 ≡ log.old.room }
     {
         let mut book = self.wait(rt, log.run(), Until::Wake { killed, target });
-        let Some((reply, wake_up)) = book.wake(killed, target, log) else {
+        let Some((reply, wake_up)) = book.make_wake(log.run(), killed, target) else {
             self.held
                 .changed
                 .of(log.run())
@@ -142,6 +143,8 @@ impl Shared {
             unreachable!()
         };
         wake_up.give(&self.held.changed, &book);
+        drop(book);
+        log.add(Op::Wake { killed, target }, reply);
         reply
     }
 
@@ -157,7 +160,7 @@ impl Shared {
         ensures given_up { result.1.run ≡ log.old.started.run }
     {
         let mut book = self.held.book.lock(rt);
-        let Some((finish, wake_up, given_up)) = book.leave(log) else {
+        let Some((finish, wake_up, given_up)) = book.make_leave(log.run(), log.is_ended()) else {
             self.held
                 .changed
                 .of(log.run())
@@ -165,6 +168,10 @@ impl Shared {
             unreachable!()
         };
         wake_up.give(&self.held.changed, &book);
+        drop(book);
+        if let Some(reply) = finish {
+            log.add(Op::Finish, reply);
+        }
         (finish, given_up)
     }
 
@@ -214,19 +221,5 @@ impl Shared {
         let book = self.held.book.lock(rt);
         book.is_legal();
         Look { book }
-    }
-
-    /// Closes the case.
-    pub(crate) fn close<R: Wait>(
-        &self,
-        rt: &R,
-        alloc: Global,
-        lefts: Vec<Left>,
-    ) -> Result<Closed, CloseFault>
-        ensures whole { IfOk result (λ c. IsWhole c.behaviours c.history lefts.items) }
-        ensures runs { result ≡ Err CloseFault.NoMemory → IsOneEach (length lefts.items) lefts.items }
-        ensures report { IfOk result (λ c. IsOneHistory c) }
-    {
-        self.look(rt).close(alloc, lefts)
     }
 }

@@ -2,7 +2,7 @@
 ghost use Rattle.std.specs.Prelude.{◌≡◌, ◌+◌, false};
 ghost use Rattle.tc_book.specs.Inside.{wakes};
 
-use crate::logged_book::LoggedBook;
+use crate::book::Book;
 use std::sync::Condvar;
 use tc_verdict::Run;
 
@@ -32,9 +32,9 @@ impl Told {
     }
 
     /// Passes over the run, which is the next to look at, and none to wake.
-    pub(crate) fn passed_over(self, run: Run, book: &LoggedBook) -> Told
+    pub(crate) fn passed_over(self, run: Run, book: &Book) -> Told
         requires next { self.runs ≡ run.0 }
-        requires sleeps { wakes book.now.book run ≡ false }
+        requires sleeps { wakes book.now run ≡ false }
         ensures { result.runs ≡ self.runs + 1 }
     {
         // Only the clauses speak of it.

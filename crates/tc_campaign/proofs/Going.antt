@@ -4,7 +4,7 @@ use Rattle.tc_rules.specs.{Prelude.Verdict, declared.refusal.CaseError.CaseError
 use Rattle.tc_book.specs.Prelude.{PassState}
 use Rattle.tc_exec.{specs.declared.{job.Back.Back, test_case.Case.Case}, proofs.Lemmas.Taking.{done_more, done_none}}
 use Rattle.tc_report.{specs.{declared.results.{CampaignEnd.CampaignEnd, Finished.Finished}, Prelude.AreTaken}, proofs.Lemmas.Keeping.taken_more}
-use Rattle.tc_campaign.{specs.{Campaign.{AreBack, IsCalled, IsRefusal}, Inside.{HasThreads, IsGoing, IsOf, IsSoFar, IsStep, WasRun}, Outline.outline_of, declared.step.Step.Step}, proofs.{Lemmas.Running.{done_begin, run_aborted, run_complete, run_cut, run_stopped, so_far_more, so_far_none, threads_more}, Places.slice_get-behind}}
+use Rattle.tc_campaign.{specs.{Campaign.{AreBack, IsCalled, IsRefusal}, Inside.{HasThreads, IsGoing, IsOf, IsSoFar, IsStep, WasRun}, Outline.outline_of, declared.campaign.Step.Step}, proofs.{Lemmas.Running.{done_begin, run_aborted, run_complete, run_cut, run_stopped, so_far_more, so_far_none, threads_more}, Places.slice_get-behind}}
 
 module _ {B O : Type 0} (outcome : B → PassState → Back → Type 0) (takes : O → Finished → O → Bool → Type 0)
     (stop_on : Option Verdict) (threads : ℕ) (cases : List (Case B)) where

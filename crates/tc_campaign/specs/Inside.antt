@@ -5,7 +5,7 @@ use Rattle.tc_entry.specs.declared.limits.TheConstants.{BEHAVIOURS}
 use Rattle.tc_exec.specs.{Prelude.IsCaseReport, Inside.AreDone, declared.{job.Back.Back, test_case.Case.Case}}
 use Rattle.tc_book.specs.Prelude.{PassState}
 use Rattle.tc_report.specs.{Inside.IsEndedAt, declared.results.{CampaignEnd.CampaignEnd, Finished.Finished}, Prelude.{AreTaken, IsMet}}
-use Rattle.tc_campaign.specs.{Campaign.{AreBack, IsCalled, IsOfCase, IsRefusal}, Outline.{Outline, outline_of}, declared.step.Step.Step}
+use Rattle.tc_campaign.specs.{Campaign.{AreBack, IsCalled, IsOfCase, IsRefusal}, Outline.{Outline, outline_of}, declared.campaign.Step.Step}
 
 -- the stopping rule is not met
 abbrev pub IsBetter : Option Verdict → Verdict → Type 0

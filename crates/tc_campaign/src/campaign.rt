@@ -1,18 +1,41 @@
 //! The run of a campaign.
-ghost use Rattle.std.specs.Prelude.{◌≡◌, ◌≤◌, [], All, IfOk, IfErr, IfSome, IfNone, Option, length, map, slice_get, ℕ};
-ghost use Rattle.std.specs.Vec.{vec_capacity, vec_len};
+ghost use Rattle.std.specs.{Prelude.{◌≡◌, ◌≤◌, [], All, IfOk, IfErr, IfSome, IfNone, Option, length, map, slice_get, ℕ}, Vec.{vec_capacity, vec_len}};
 ghost use Rattle.tc_rules.specs.Prelude.{Verdict as AnyVerdict};
+ghost use Rattle.tc_report.specs.{Prelude.IsMet, declared.results.CampaignEnd.TheVariants.StoppedAfter};
 ghost use Rattle.tc_campaign.specs.{Campaign.AreBack, Campaign.IsCalled, Campaign.IsCutShort, Campaign.IsObserved, Campaign.IsRunTo, Inside.HasThreads, Inside.IsOf, Inside.IsRefused, Inside.IsStep, Inside.IsUnrun, Inside.WasRun, Inside.ended_by, Outline.HasNames, Outline.outline_of};
 
-use crate::step::Step;
-use crate::stopping::stop_after;
 use std::alloc::Global;
 use std::sync::Wait;
 use std::thread::Threads;
 use tc_book::Sequence;
 use tc_entry::{Name, Verdict};
 use tc_exec::{Callable, Case, CaseError, CaseReport, Everyone, run_case_with};
-use tc_report::{CampaignEnd, Finished, Kept, Observer, Results};
+use tc_report::{CampaignEnd, Finished, Kept, Observer, Results, is_met};
+
+/// How a campaign continues after a test case.
+#[derive(Drop)]
+pub(crate) enum Step {
+    /// With the next test case.
+    GoesOn,
+    /// It ends by the stopping rule.
+    Stops(CampaignEnd),
+    /// It ends, since the test case was refused.
+    Refused(CampaignEnd),
+    /// The observer has ended it.
+    CutShort,
+}
+
+/// How the campaign ends after this test case, if it is the last by the stopping rule.
+fn stop_after(stop_on: Option<Verdict>, case: &Finished) -> Option<CampaignEnd>
+    ensures stopped { IfSome result (λ ending. (ending ≡ StoppedAfter case.now.name) × IsMet stop_on case.now.report.verdict) }
+    ensures better { IfNone result (IsMet stop_on case.now.report.verdict → ⊥) }
+{
+    if is_met(stop_on, case.report.verdict) {
+        Some(CampaignEnd::StoppedAfter(case.name.copy()))
+    } else {
+        None
+    }
+}
 
 /// What becomes of a test case by the answer to its run: it is finished with the report, or the campaign is aborted at its name, for the
 /// same reason.

@@ -2,8 +2,6 @@
 #![tactic(auto)]
 
 mod campaign;
-mod step;
-mod stopping;
 
 pub use campaign::{run_campaign, run_campaign_with, without_room};
 pub use tc_entry::Shard;

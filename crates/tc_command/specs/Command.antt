@@ -53,9 +53,9 @@ report = fold with_rule (new_app (codes "report")) (
     flag_rule (codes "text") ∷ flag_rule (codes "csv") ∷ flag_rule (codes "junit") ∷ word_rule (codes "suite") ∷ flag_rule (codes "html")
     ∷ flag_rule (codes "summary") ∷ choosing)
 
--- the options of `model`: which histories, and whether a fault is explained
+-- the options of `model`: which histories, whether they may be long, and whether a fault is explained
 abbrev pub model : App
-model = fold with_rule (new_app (codes "model")) (words_rule (codes "only") ∷ flag_rule (codes "failed") ∷ flag_rule (codes "last") ∷ explaining)
+model = fold with_rule (new_app (codes "model")) (words_rule (codes "only") ∷ flag_rule (codes "failed") ∷ flag_rule (codes "last") ∷ flag_rule (codes "long") ∷ explaining)
 
 -- a command that prints its version
 abbrev pub with_version : App → App

@@ -111,8 +111,8 @@ const MODEL_HELP: (&str, &str) = (
     "\
 Standard input is histories or evidence: ttrun model < FILE. Standard output
 is a script with a test case for each: ttrun explore says of it whether
-another order of the same calls gives another verdict. --only, --failed and
---last choose as those of check do. Of a history that has no such script
+another order of the same calls gives another verdict. --only, --failed,
+--last and --long are as for check. Of a history that has no such script
 standard error names the first line that none has, and says why.
 Status: 0 if each chosen history has one; otherwise 3.",
 );
@@ -275,7 +275,7 @@ const CHECK_OPTIONS: [OptionRow; 8] = [
     NO_EXPLAIN,
 ];
 
-const MODEL_OPTIONS: [OptionRow; 5] = [SCRIPT_ONLY, NOT_PASSED, LAST, EXPLAIN, NO_EXPLAIN];
+const MODEL_OPTIONS: [OptionRow; 6] = [SCRIPT_ONLY, NOT_PASSED, LAST, LONG, EXPLAIN, NO_EXPLAIN];
 
 const REPORT_OPTIONS: [OptionRow; 14] = [
     OptionRow::Flag("text", "writes the text report"),

@@ -1,5 +1,5 @@
 //! A course: what is known of a case after some turns.
-ghost use Rattle.std.specs.Prelude.{◌≡◌, ◌≤◌, ◌<◌, ◌∷◌, ℕ, [], IfOk, IfSome, OnOk, Some, length, slice_index_or};
+ghost use Rattle.std.specs.Prelude.{◌≡◌, ◌≤◌, ◌<◌, ◌∷◌, ℕ, [], IfOk, OnOk, length, slice_index_or};
 ghost use Rattle.tc_entry.specs.declared.limits.TheConstants.{BEHAVIOURS};
 ghost use Rattle.tc_rules.specs.Prelude.{past_of, entry_made};
 ghost use Rattle.tc_rules.specs.Answers as answers;
@@ -65,11 +65,10 @@ fn take_in_for(standings: &mut Vec<Standing>, entry: &Entry, run: Run) -> Result
     ensures as_many { length standings.new.items ≡ length standings.old.items }
     ensures one { OnOk result (TakesInFor run.0 entry.now standings.old.items standings.new.items) }
 {
-    let at = usize::from(run.0);
-    if at < standings.len() {
-        standings[at].take_in(entry, run.0)?;
+    match standings.get_mut(usize::from(run.0)) {
+        Some(standing) => standing.take_in(entry, run.0),
+        None => Ok(()),
     }
-    Ok(())
 }
 
 // Takes one more entry in: nothing new is known but of its caller, and of the run that it starts.
@@ -80,14 +79,9 @@ fn take_in_all(standings: &mut Vec<Standing>, entry: &Entry) -> Result<(), NoMem
 {
     take_in_for(standings, entry, entry.caller)?;
     match &entry.op {
-        Op::Start { run, .. } => {
-            if run.0 != entry.caller.0 {
-                take_in_for(standings, entry, *run)?;
-            }
-        }
-        _ => {}
+        Op::Start { run, .. } if run.0 != entry.caller.0 => take_in_for(standings, entry, *run),
+        _ => Ok(()),
     }
-    Ok(())
 }
 
 // Counts a call that was carried out.
@@ -106,11 +100,9 @@ fn count_in(carried: &mut Vec<usize>, entry: &Entry) -> Result<(), NoMemory>
 pub fn steps_of(scripts: &[Script], run: Run) -> &[Step]
     ensures { result.now ≡ courses.steps_of scripts.now run.0 }
 {
-    let at = usize::from(run.0);
-    if at < scripts.len() {
-        scripts[at].steps()
-    } else {
-        &[]
+    match scripts.get(usize::from(run.0)) {
+        Some(script) => script.steps(),
+        None => &[],
     }
 }
 
@@ -140,7 +132,7 @@ impl Course {
         let table = self.table.copied(alloc)?;
         let standings = copied_standings(alloc, self.standings.as_slice())?;
         let mut carried = Vec::with_capacity(alloc, self.carried.len())?;
-        carried.extend_from_slice(self.carried.as_slice())?;
+        carried.extend_from_slice(&self.carried)?;
         Ok(Course {
             table,
             standings,
@@ -178,13 +170,10 @@ impl Course {
         ensures added { IfOk result (λ c. past_of c ≡ entry_made self.behaviours (past_of self) run op ∷ past_of self) }
     {
         let Course {
-            table,
-            standings,
-            carried,
+            mut table,
+            mut standings,
+            mut carried,
         } = self;
-        let mut table = table;
-        let mut standings = standings;
-        let mut carried = carried;
         let entry_op = op.copy();
         let reply = table.play(run, op)?;
         let entry = Entry {
@@ -242,21 +231,6 @@ impl Course {
         ensures { result ≡ answers.is_active (past_of self.now) run.0 }
     {
         self.table.is_active(run)
-    }
-
-    /// The component that a run is running on, if it continues.
-    pub fn comp_of(&self, run: Run) -> Option<Comp>
-        ensures { IfSome result (λ c. (courses.stand (past_of self.now) run.0).comp ≡ Some c) }
-    {
-        let at = usize::from(run.0);
-        if at >= self.standings.len() {
-            return None;
-        }
-        let comp = self.standings[at].comp_of_pass()?;
-        match self.table.phase_of(comp) {
-            Some(Phase::Running(now)) if now.0 == run.0 => Some(comp),
-            _ => None,
-        }
     }
 
     /// The local verdict of a component.

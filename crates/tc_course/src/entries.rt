@@ -2,21 +2,10 @@
 ghost use Rattle.std.specs.{Prelude.{◌≡◌, []}, Option.option_map_or};
 ghost use Rattle.tc_rules.specs.Prelude.{start};
 ghost use Rattle.tc_entry.specs.Reply as replies;
-ghost use Rattle.tc_course.specs.Inside.{ends as own_ends, wake_if};
+ghost use Rattle.tc_course.specs.Inside.{wake_if};
 ghost use Rattle.tc_course.specs.Course as courses;
 
 use tc_entry::{Comp, Entry, Op, Reply};
-use tc_rules::ends_pass;
-
-/// Whether an entry by a run on this component ends its pass.
-pub(crate) fn ends(own: Option<Comp>, entry: &Entry) -> bool
-    ensures { result ≡ own_ends own entry.now }
-{
-    match own {
-        Some(own) => ends_pass(own, entry),
-        None => false,
-    }
-}
 
 /// Whether the operation is a Wake.
 pub(crate) fn is_wake(op: &Op) -> bool
@@ -44,10 +33,7 @@ pub(crate) fn wake_after(entry: &Entry) -> Option<Op>
 pub fn has_gone_on(reply: Reply) -> bool
     ensures { result ≡ courses.goes_on reply }
 {
-    match reply {
-        Reply::Ended | Reply::Parked => false,
-        _ => true,
-    }
+    !matches!(reply, Reply::Ended | Reply::Parked)
 }
 
 /// The arguments with which this operation starts a run, if it starts one.

@@ -1,7 +1,6 @@
 //! The courses of a test case whose behaviours are scripts: which calls its runs make, and with which replies.
 #![tactic(auto)]
 
-mod call;
 mod course;
 mod entries;
 mod following;

@@ -15,13 +15,7 @@ use tc_verdict::Run;
 fn is_idle(course: &Course, run: Run, op: &Op) -> bool
     ensures { result ≡ spec_idle op.now (answers.answer course.now.behaviours (past_of course.now) run.0 op.now) }
 {
-    if !is_wake(op) {
-        return false;
-    }
-    match course.would(run, op) {
-        Reply::Parked => true,
-        _ => false,
-    }
+    is_wake(op) && matches!(course.would(run, op), Reply::Parked)
 }
 
 /// What the run calls next, if it can continue.

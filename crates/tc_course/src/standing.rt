@@ -1,13 +1,13 @@
 //! What is known of one run.
-ghost use Rattle.std.specs.Prelude.{◌≡◌, IfOk, IfSome, Some, OnOk, option_copied};
+ghost use Rattle.std.specs.Prelude.{◌≡◌, IfOk, OnOk, option_copied, slice_get};
+ghost use Rattle.tc_course.specs.Inside.{call_of};
 ghost use Rattle.tc_course.specs.Course as courses;
 
-use crate::call::call_at;
-use crate::entries::{arguments, ends, is_wake, wake_after};
+use crate::entries::{arguments, is_wake, wake_after};
 use std::alloc::Global;
 use std::marker::Model;
 use tc_entry::{Comp, Entry, Op};
-use tc_rules::{created, started_on};
+use tc_rules::{created, ends_pass, started_on};
 use tc_step::Step;
 use tc_verdict::NoMemory;
 
@@ -27,6 +27,16 @@ impl Model for Standing {
     ghost Value = { CourseState };
 
     ghost view = { λ s. record { comp = s.comp; bound = s.bound.items; called = s.called; left = s.left; wake = s.wake } };
+}
+
+// The call of the step at this place; after the last step, the end of the behaviour.
+fn call_at(me: Comp, bound: &[Comp], steps: &[Step], at: usize) -> Op
+    ensures { result ≡ call_of me bound.now (slice_get steps.now at) }
+{
+    match steps.get(at) {
+        Some(step) => step.operation(me, bound),
+        None => Op::Finish,
+    }
 }
 
 impl Standing {
@@ -68,7 +78,9 @@ impl Standing {
         if !is_wake(&entry.op) {
             self.called = self.called.checked_add(1).ok_or(NoMemory)?;
         }
-        if ends(self.comp, entry) {
+        if let Some(own) = self.comp
+            && ends_pass(own, entry)
+        {
             self.left = true;
         }
         self.wake = wake_after(entry);
@@ -113,13 +125,6 @@ impl Standing {
             Some(wake) => Some(wake.copy()),
             None => Some(call_at(me, &self.bound, steps, self.called)),
         }
-    }
-
-    /// The component of the run, if it was started and its pass has not ended.
-    pub(crate) fn comp_of_pass(&self) -> Option<Comp>
-        ensures { IfSome result (λ c. self.now.comp ≡ Some c) }
-    {
-        if self.left { None } else { self.comp }
     }
 
     /// The component that the run was started on, if it was.

@@ -142,7 +142,10 @@ fn room_for<B: Callable>(
     ensures room_of_workers { IfOk result (λ r. runs ≤ vec_capacity r.0) }
     ensures room_of_lefts { IfOk result (λ r. vec_capacity r.1.lefts ≡ runs) }
 {
-    let gathered = Gathered::new(alloc, runs)?;
+    let gathered = Gathered {
+        lefts: Vec::with_capacity(alloc, runs)?,
+        starved: false,
+    };
     let workers = Vec::with_capacity(alloc, runs)?;
     Ok((workers, gathered))
 }

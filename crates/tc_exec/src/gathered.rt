@@ -1,13 +1,11 @@
 //! What the runs of a case have left.
-ghost use Rattle.std.specs.Prelude.{◌≡◌, ◌<◌, ◌+◌, ◌++◌, ◌∷◌, ◌||◌, [], false, IfOk};
+ghost use Rattle.std.specs.Prelude.{◌≡◌, ◌<◌, ◌+◌, ◌++◌, ◌∷◌, ◌||◌, []};
 ghost use Rattle.std.specs.Vec.{vec_len, vec_capacity};
 ghost use Rattle.tc_exec.specs.Inside.{is_starved};
 
 use crate::handed::Handed;
 use crate::job::Ending;
-use std::alloc::Global;
 use tc_book::Left;
-use tc_verdict::NoMemory;
 
 /// What the runs have left so far.
 #[derive(Drop)]
@@ -18,18 +16,6 @@ pub(crate) struct Gathered {
 }
 
 impl Gathered {
-    /// Nothing yet, with room for what that many runs leave.
-    pub(crate) fn new(alloc: Global, runs: usize) -> Result<Gathered, NoMemory>
-        ensures room { IfOk result (λ g. vec_capacity g.lefts ≡ runs) }
-        ensures empty { IfOk result (λ g. g.lefts.items ≡ []) }
-        ensures starved { IfOk result (λ g. g.starved ≡ false) }
-    {
-        Ok(Gathered {
-            lefts: Vec::with_capacity(alloc, runs)?,
-            starved: false,
-        })
-    }
-
     /// Takes what one more run left.
     pub(crate) fn take(&mut self, handed: Handed)
         requires { vec_len self.old.lefts < vec_capacity self.old.lefts }

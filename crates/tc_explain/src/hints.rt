@@ -53,7 +53,11 @@ fn add_stop(help: &mut Help, walk: &Walk) -> Result<()> {
     match help.words.get(place) {
         None if walk.last.ends_line(walk.sort) => Ok(()),
         None => {
-            help.add_column(help.line.len(), "the end of the line")?;
+            help.add_counted(
+                "column ",
+                help.line.len().saturating_add(1),
+                ": the end of the line",
+            )?;
             help.add_expected(offered, other)
         }
         Some(word) => {
@@ -240,7 +244,9 @@ fn add_spaced(help: &mut Help) -> Result<()> {
         Refusal::Histories(TextKind::Entry) if is_of_evidence(help.words) => help.add_line(
             "evidence has such a line: RUN # TEXT, RUN ! TEXT, or behaviour RUN NAME before others of the run",
         ),
-        _ if space < help.line.len() => help.add_column(space, "a space too many"),
+        _ if space < help.line.len() => {
+            help.add_counted("column ", space.saturating_add(1), ": a space too many")
+        }
         Refusal::Histories(TextKind::Entry) => add_call(help, Sort::Histories, Slot::Entry),
         Refusal::Moves(TextKind::Move) => add_call(help, Sort::Moves, Slot::Run),
         Refusal::Histories(TextKind::FirstLine) => add_first_line(help),

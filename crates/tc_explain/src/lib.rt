@@ -4,9 +4,7 @@
 
 mod help;
 mod hints;
-mod names;
 mod naming;
-mod nearest;
 mod quote;
 mod scan;
 mod slot;

@@ -1,9 +1,109 @@
-//! What helps if a name of a script is wrong.
+//! What helps if a name of a script is wrong, and the names that a line may refer to, or not use again.
 use crate::Result;
 use crate::help::Help;
-use crate::names::{Given, Names, given_as, no_names};
+use std::alloc::Global;
 use tc_entry::ARGUMENTS;
-use tc_reader::{Keyword, ScriptKind, is_word, read_keyword, read_name};
+use tc_reader::{Keyword, Lines, ScriptKind, is_word, read_keyword, read_name, read_words};
+
+// A name, the line that gives it, and how many parameters follow it there.
+#[derive(Clone, Copy)]
+struct Given<'t> {
+    name: &'t [u8],
+    line: usize,
+    parameters: usize,
+}
+
+// The names around a line, each kind in the order of the text.
+#[derive(Drop)]
+struct Names<'t> {
+    // Those of the test cases above.
+    cases: Vec<Given<'t>>,
+    // Those of the behaviours of its test case.
+    behaviours: Vec<Given<'t>>,
+    // Those of the parameters of its behaviour, and of what the lines above create in it.
+    bound: Vec<Given<'t>>,
+    // Those of all parameters of its test case, and of what it creates.
+    anywhere: Vec<Given<'t>>,
+}
+
+impl<'t> Names<'t> {
+    // Binds the name; whether this is above the line that is wanted.
+    fn bind(&mut self, given: Given<'t>, above: bool) -> Result<()> {
+        self.anywhere.push(given)?;
+        if above {
+            self.bound.push(given)?;
+        }
+        Ok(())
+    }
+
+    // Takes the words of a line with this number; whether it is above the line that is wanted.
+    fn take(&mut self, line: usize, above: bool, words: &[&'t [u8]]) -> Result<()> {
+        let [first, name, rest @ ..] = words else {
+            return Ok(());
+        };
+        let given = Given {
+            name,
+            line,
+            parameters: rest.len(),
+        };
+        match read_keyword(first) {
+            Some(Keyword::TestCase) => {
+                self.cases.push(given)?;
+                self.behaviours.clear();
+                self.anywhere.clear();
+            }
+            Some(Keyword::Behaviour) => {
+                self.behaviours.push(given)?;
+                if above {
+                    self.bound.clear();
+                }
+                for name in rest {
+                    self.bind(Given { name, ..given }, above)?;
+                }
+            }
+            Some(Keyword::Create) => self.bind(given, above)?,
+            _ => {}
+        }
+        Ok(())
+    }
+
+    // The names around the line with this number. The text is read to the end of its test case.
+    fn read(&mut self, alloc: Global, text: &'t [u8], wanted: usize) -> Result<()> {
+        let mut words = Vec::new(alloc);
+        let mut rest = Lines::new(text);
+        for number in 1..=text.len() {
+            let Some(line) = rest.next() else {
+                return Ok(());
+            };
+            read_words(line, &mut words)?;
+            if number >= wanted && begins_case(words.as_slice()) {
+                return Ok(());
+            }
+            self.take(number, number < wanted, words.as_slice())?;
+        }
+        Ok(())
+    }
+}
+
+// Whether these are the words of a line that begins a test case.
+fn begins_case(words: &[&[u8]]) -> bool {
+    matches!(words, [first, ..] if is_word(first, Keyword::TestCase.text().as_bytes()))
+}
+
+// No names.
+fn no_names<'t>(alloc: Global) -> Names<'t> {
+    Names {
+        cases: Vec::new(alloc),
+        behaviours: Vec::new(alloc),
+        bound: Vec::new(alloc),
+        anywhere: Vec::new(alloc),
+    }
+}
+
+// The first of these with this name.
+fn given_as<'t>(given: &[Given<'t>], name: &[u8]) -> Option<Given<'t>> {
+    given.iter().find(|one| is_word(one.name, name)).copied()
+}
 
 // Adds the nearest of the names or of the other words; if none is near, the names under this head, or that there is none.
 fn add_near<'n>(
@@ -78,15 +178,21 @@ fn others_of(keyword: Option<Keyword>) -> &'static [&'static [u8]] {
     }
 }
 
+// Adds the word at this place, if it was found, and the rule that it breaks.
+fn add_rule(help: &mut Help, place: Option<usize>, rule: &str) -> Result<()> {
+    if let Some(place) = place {
+        help.add_word(place)?;
+    }
+    help.add_line(rule)
+}
+
 // Adds which name is not bound, and the nearest that is.
 fn add_unbound(help: &mut Help, names: &Names) -> Result<()> {
     let bound = names.bound.as_slice();
     let keyword = help.words.first().and_then(|word| read_keyword(word));
     let found = keyword.and_then(|keyword| unbound(keyword, bound, help.words));
-    if let Some((place, _)) = found {
-        help.add_word(place)?;
-    }
-    help.add_line("a component is named by a parameter, or by a create above")?;
+    let rule = "a component is named by a parameter, or by a create above";
+    add_rule(help, found.map(|(place, _)| place), rule)?;
     let Some((_, word)) = found else {
         return Ok(());
     };
@@ -97,8 +203,7 @@ fn add_unbound(help: &mut Help, names: &Names) -> Result<()> {
 
 // Adds which behaviour there is not, and the nearest that there is and that may be started.
 fn add_unknown(help: &mut Help, names: &Names) -> Result<()> {
-    help.add_word(2)?;
-    help.add_line("a start names a behaviour of its test case")?;
+    add_rule(help, Some(2), "a start names a behaviour of its test case")?;
     let started = names.behaviours.as_slice().get(1..).unwrap_or(&[]);
     let told = (
         "behaviours after the first:",
@@ -164,12 +269,9 @@ fn twice(names: &Names, number: usize, words: &[&[u8]]) -> Option<(usize, usize)
 // Adds which name is given already, and where.
 fn add_twice(help: &mut Help, names: &Names) -> Result<()> {
     let found = twice(names, help.around.number, help.words);
-    if let Some((place, _)) = found {
-        help.add_word(place)?;
-    }
-    help.add_line(
-        "a name is given once: to a test case of the script, a behaviour of the test case, a component of the behaviour",
-    )?;
+    let rule =
+        "a name is given once: to a test case of the script, a behaviour of the test case, a component of the behaviour";
+    add_rule(help, found.map(|(place, _)| place), rule)?;
     match found {
         Some((_, first)) => help.add_counted("it is given first in line ", first, ""),
         None => Ok(()),
@@ -189,10 +291,9 @@ fn add_named_wrong(help: &mut Help, kind: ScriptKind, names: &Names) -> Result<(
 /// Adds what is wrong with a name of the line.
 pub(crate) fn add_naming(help: &mut Help, kind: ScriptKind) -> Result<()> {
     if kind == ScriptKind::MainParameters {
-        help.add_word(2)?;
-        return help.add_line(
-            "the first behaviour of a test case is started by nobody, who could give it arguments",
-        );
+        let rule =
+            "the first behaviour of a test case is started by nobody, who could give it arguments";
+        return add_rule(help, Some(2), rule);
     }
     let mut names = no_names(help.alloc);
     names.read(help.alloc, help.around.text, help.around.number)?;

@@ -165,18 +165,14 @@ fn plain<'a, 't>(tokens: &'a [&'t [u8]]) -> &'a [&'t [u8]] {
     }
 }
 
-// Whether a list may begin or end with this token.
-fn is_bracket(token: &[u8]) -> bool {
-    is_word(token, b"(") || is_word(token, b")")
-}
-
 // How many tokens a list in brackets has that these tokens begin with. The last word of each of its parts is added to
 // those that were found. None if they begin with none, or if there are brackets in it.
 fn take_list<'t>(tokens: &[&'t [u8]], found: &mut Vec<&'t [u8]>) -> Result<Option<usize>> {
     let [first, inside @ ..] = tokens else {
         return Ok(None);
     };
-    let count = inside.iter().take_while(|token| !is_bracket(token)).count();
+    let is_in_list = |token: &&&[u8]| !is_word(token, b"(") && !is_word(token, b")");
+    let count = inside.iter().take_while(is_in_list).count();
     let (list, rest) = inside.split_at(count);
     if !is_word(first, b"(") || !rest.first().is_some_and(|token| is_word(token, b")")) {
         return Ok(None);

@@ -3,9 +3,8 @@ ghost use Rattle.std.specs.{Prelude.{◌<◌, ◌+◌, ◌^◌, [], ◌∷◌, I
 ghost use Rattle.tc_text.specs.Prelude.{TellsAmong, TellsLine, is_plain};
 ghost use Rattle.tc_explain.specs.Explanation.{explanation, line_note, open_note, quoted};
 
-use crate::help::Around;
+use crate::help::{Around, near_word};
 use crate::hints::hints;
-use crate::nearest::near_word;
 use crate::quote::{append_odd, odd_place, quoted_begin, quoted_rest};
 use crate::scan::{Opened, find_line};
 use crate::sort::{Refusal, Sort, seen_sort};

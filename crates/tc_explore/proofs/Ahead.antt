@@ -1,36 +1,24 @@
 -- What holds of a history that is ahead of another by the ends of runs.
-use Rattle.std.{proofs.{lemmas.Bool.or_right, Common.{ℕ, ◌≡◌, ◌==◌, ◌||◌, ◌&&◌, ◌⊎◌, inl, inr, not, if◌then◌else◌, nat_le, Bool, true, false, Option, Some, None, is_some, MatchOption, List, [], ◌∷◌, length, drop, refl, ap, sym, subst, ◌∙◌, ◌≤◌, arith}}, specs.List.{list_any, list_all}}
-use Rattle.tc_rules.{specs.{Prelude.{Run, Comp, Entry, Op, Target, Phase, Reply, is_ended, is_fault, comp_of, ptcs, exists, is_in, created, add_new, halts, kills, phase, start_in, done, killed, is_running, is_killed, is_done, gives, overall, holds, fault, names, all_exist, asks_many, special_fault, start_fault, components, answer, plain_answer, is_active, is_active_on, is_run_of, IsLegal, level_of, Verdict, Fault}, Inside.Step.next_phase, declared.awaited.Awaited.Awaited}, proofs.Lemmas.{Deciding.{equal_if, self_equal}, Going.starts_still, Keeping.all_exist_same, Over.on_existing, Sound.plain_if}}
+use Rattle.std.{proofs.{lemmas.Bool.{or_right, false_from_ne_true, or_left, or_cases, and_parts, and_from, cases_Bool}, Common.{ℕ, ◌≡◌, ◌==◌, ◌||◌, ◌&&◌, ◌⊎◌, inl, inr, not, if◌then◌else◌, nat_le, Bool, true, false, Option, Some, None, is_some, MatchOption, List, [], ◌∷◌, length, drop, refl, ap, sym, subst, ◌∙◌, ◌≤◌, arith, ⊎_elim}}, specs.List.{list_any, list_all}}
+use Rattle.tc_rules.{specs.{Prelude.{Run, Comp, Entry, Op, Target, Phase, Reply, is_ended, is_fault, comp_of, ptcs, exists, is_in, created, add_new, halts, kills, phase, start_in, done, killed, is_running, is_killed, is_done, gives, overall, holds, fault, names, all_exist, asks_many, special_fault, start_fault, components, answer, plain_answer, is_active, is_active_on, is_run_of, IsLegal, level_of, Verdict, Fault, is_alive_type}, Inside.Step.next_phase, declared.awaited.Awaited.Awaited}, proofs.Lemmas.{Deciding.{equal_if, self_equal}, Going.starts_still, Keeping.all_exist_same, Over.on_existing, Sound.plain_if, Decided.overall_more}}
 use Rattle.tc_entry.specs.declared.limits.TheConstants.{COMPONENTS}
 use Rattle.tc_step.specs.Prelude.{ScriptView}
 use Rattle.tc_course.{specs.Prelude.{CourseState, stand, goes_on, IsCourse}, proofs.Lemmas.{stand_comp, stand_other}}
-use Rattle.tc_explore.{specs.Inside.Simulation.{IsAlike, IsQuietAt, call_at, IsLastAt, WasParked, IsLeaving, IsEnding, IsAhead, IsBarredBefore}, proofs.Alike.{is_plain_call, phase_next, overall_next, next_no_better}}
+use Rattle.tc_explore.{specs.Inside.Simulation.{IsAlike, IsQuietAt, call_at, IsLastAt, WasParked, IsLeaving, IsEnding, IsAhead}, proofs.Alike.{is_plain_call, phase_next, next_no_better, none_unless}}
 
 -- ---- waits
 
 any_more : (f g : ℕ → Bool) (xs : List ℕ) → ((x : ℕ) → f x ≡ true → g x ≡ true) → list_any f xs ≡ true → list_any g xs ≡ true
 any_more f g [] h k = k
-any_more f g (x ∷ xs) h k = by_test (any_more f g xs h) (f x) refl k
-  where
-    by_test : (list_any f xs ≡ true → list_any g xs ≡ true) → (t : Bool) → f x ≡ t → (t || list_any f xs) ≡ true → (g x || list_any g xs) ≡ true
-    by_test rest true j l = rw (h x j) refl
-    by_test rest false j l = rw (rest l) (or_right (g x) true refl)
+any_more f g (x ∷ xs) h k = ⊎_elim (λ (j : f x ≡ true). or_left (g x) _ (h x j)) (λ (j : list_any f xs ≡ true). or_right (g x) _ (any_more f g xs h j)) (or_cases (f x) _ k)
 
 all_more : (f g : ℕ → Bool) (xs : List ℕ) → ((x : ℕ) → f x ≡ true → g x ≡ true) → list_all f xs ≡ true → list_all g xs ≡ true
 all_more f g [] h k = k
-all_more f g (x ∷ xs) h k = by_test (all_more f g xs h) (f x) refl k
-  where
-    by_test : (list_all f xs ≡ true → list_all g xs ≡ true) → (t : Bool) → f x ≡ t → (t && list_all f xs) ≡ true → (g x && list_all g xs) ≡ true
-    by_test rest true j l = rw (h x j, rest l) refl
-    by_test rest false j l = absurd cc
+all_more f g (x ∷ xs) h k = let both = and_parts (f x) _ k in and_from (g x) _ (h x both.0) (all_more f g xs h both.1)
 
 module _ {aim : Verdict} {scripts : List ScriptView} {p q : List Entry} where
   phase_more : IsAhead aim scripts p q → (g : Phase → Bool) → g Phase.Killed ≡ true → (c : ℕ) → g (phase p c) ≡ true → g (phase q c) ≡ true
-  phase_more s g k c h = by_phase (s.phases c)
-    where
-      by_phase : (phase p c ≡ phase q c) ⊎ IsEnding aim scripts p q c → g (phase q c) ≡ true
-      by_phase (inl e) = ap g (sym e) ∙ h
-      by_phase (inr n) = ap g n.ended ∙ k
+  phase_more s g k c h = ⊎_elim (λ (e : phase p c ≡ phase q c). ap g (sym e) ∙ h) (λ (n : IsEnding aim scripts p q c). ap g n.ended ∙ k) (s.phases c)
 
   any_ahead : IsAhead aim scripts p q → (g : Phase → Bool) → g Phase.Killed ≡ true → list_any (λ c. g (phase p c)) (ptcs p) ≡ true → list_any (λ c. g (phase q c)) (ptcs q) ≡ true
   any_ahead s g k h =
@@ -63,28 +51,24 @@ module _ {aim : Verdict} {scripts : List ScriptView} {p q : List Entry} where
 
 -- ---- the runs that continue
 
-not_run : (b : ℕ) (ph : Phase) → ph ≡ Phase.Killed → is_run_of b ph ≡ false
-not_run b ph h = ap (is_run_of b) h
+pub active_if : (past : List Entry) (b : ℕ) (c : Comp) → comp_of past b ≡ Some c → is_run_of b (phase past c.0) ≡ true → is_active past b ≡ true
+unfolding is_active
+active_if past b c e h = rw e h
 
 module _ {aim : Verdict} {scripts : List ScriptView} {p q : List Entry} where
   pub ending_active : (c : ℕ) (n : IsEnding aim scripts p q c) → is_active p n.run.0 ≡ true
-  unfolding is_active
-  ending_active c n = rw n.on (ap (is_run_of n.run.0) n.running ∙ self_equal n.run.0)
+  ending_active c n = active_if p n.run.0 (record { 0 = c }) n.on (ap (is_run_of n.run.0) n.running ∙ self_equal n.run.0)
 
   pub ended_inactive : IsAhead aim scripts p q → (c : ℕ) (n : IsEnding aim scripts p q c) → is_active q n.run.0 ≡ false
   unfolding is_active
-  ended_inactive s c n = ap (is_active_on q n.run.0) (sym (s.comp_same n.run.0) ∙ n.on) ∙ not_run n.run.0 (phase q c) n.ended
+  ended_inactive s c n = ap (is_active_on q n.run.0) (sym (s.comp_same n.run.0) ∙ n.on) ∙ ap (is_run_of n.run.0) n.ended
 
   -- a run that continues after q is not among those that are leaving
   pub not_ending_run : IsAhead aim scripts p q → (b : ℕ) → is_active q b ≡ true → (c : ℕ) (n : IsEnding aim scripts p q c) → (b == n.run.0) ≡ false
-  not_ending_run s b act c n = by_test (b == n.run.0) refl
-    where
-      by_test : (t : Bool) → (b == n.run.0) ≡ t → t ≡ false
-      by_test false k = refl
-      by_test true k =
-          let on : is_active q b ≡ is_active q n.run.0 = ap (is_active q) (equal_if b n.run.0 k) in
-          let off : is_active q n.run.0 ≡ false = ended_inactive s c n in
-          absurd cc
+  not_ending_run s b act c n = false_from_ne_true (b == n.run.0) (λ k.
+      let on : is_active q b ≡ is_active q n.run.0 = ap (is_active q) (equal_if b n.run.0 k) in
+      let off : is_active q n.run.0 ≡ false = ended_inactive s c n in
+      cc)
 
   pub active_back : IsAhead aim scripts p q → (b : ℕ) → is_active q b ≡ true → is_active p b ≡ true
   unfolding is_active
@@ -92,11 +76,9 @@ module _ {aim : Verdict} {scripts : List ScriptView} {p q : List Entry} where
     where
       by_comp : (o : Option Comp) → is_active_on q b o ≡ true → is_active_on p b o ≡ true
       by_comp None k = absurd cc
-      by_comp (Some c) k = by_phase (s.phases c.0)
-        where
-          by_phase : (phase p c.0 ≡ phase q c.0) ⊎ IsEnding aim scripts p q c.0 → is_run_of b (phase p c.0) ≡ true
-          by_phase (inl e) = ap (is_run_of b) e ∙ k
-          by_phase (inr n) = let off : is_run_of b (phase q c.0) ≡ false = not_run b (phase q c.0) n.ended in absurd cc
+      by_comp (Some c) k =
+          ⊎_elim (λ (e : phase p c.0 ≡ phase q c.0). ap (is_run_of b) e ∙ k)
+          (λ (n : IsEnding aim scripts p q c.0). let off : is_run_of b (phase q c.0) ≡ false = ap (is_run_of b) n.ended in absurd cc) (s.phases c.0)
 
   pub active_forth : IsAhead aim scripts p q → (b : ℕ) → is_active p b ≡ true → (is_active q b ≡ true) ⊎ ((c : ℕ) × (n : IsEnding aim scripts p q c) × (n.run.0 ≡ b))
   unfolding is_active
@@ -104,11 +86,9 @@ module _ {aim : Verdict} {scripts : List ScriptView} {p q : List Entry} where
     where
       by_comp : (o : Option Comp) → comp_of p b ≡ o → is_active_on p b o ≡ true → (is_active q b ≡ true) ⊎ ((c : ℕ) × (n : IsEnding aim scripts p q c) × (n.run.0 ≡ b))
       by_comp None on k = absurd cc
-      by_comp (Some c) on k = by_phase (s.phases c.0)
-        where
-          by_phase : (phase p c.0 ≡ phase q c.0) ⊎ IsEnding aim scripts p q c.0 → (is_active q b ≡ true) ⊎ ((c : ℕ) × (n : IsEnding aim scripts p q c) × (n.run.0 ≡ b))
-          by_phase (inl e) = inl (ap (is_active_on q b) (sym (s.comp_same b) ∙ on) ∙ (ap (is_run_of b) (sym e) ∙ k))
-          by_phase (inr n) = inr (c.0, n, equal_if n.run.0 b (ap (is_run_of b) (sym n.running) ∙ k))
+      by_comp (Some c) on k =
+          ⊎_elim (λ (e : phase p c.0 ≡ phase q c.0). inl (ap (is_active_on q b) (sym (s.comp_same b) ∙ on) ∙ (ap (is_run_of b) (sym e) ∙ k)))
+          (λ (n : IsEnding aim scripts p q c.0). inr (c.0, n, equal_if n.run.0 b (ap (is_run_of b) (sym n.running) ∙ k))) (s.phases c.0)
 
 -- ---- errors
 
@@ -133,11 +113,9 @@ some_if_all false false x y f g h = h
 module _ {aim : Verdict} {scripts : List ScriptView} {p q : List Entry} where
   start_ahead : IsAhead aim scripts p q → (n c b : ℕ) → is_some (start_fault n p c b) ≡ is_some (start_fault n q c b)
   unfolding start_fault
-  start_ahead s n c b = by_phase (s.phases c)
-    where
-      by_phase : (phase p c ≡ phase q c) ⊎ IsEnding aim scripts p q c → is_some (start_fault n p c b) ≡ is_some (start_fault n q c b)
-      by_phase (inl e) = rw (e, s.comp_same b) refl
-      by_phase (inr m) = rw (m.running, m.ended) (some_if_both (c == 0) Fault.StartMain Fault.AlreadyRunning Fault.NotStartable)
+  start_ahead s n c b =
+      ⊎_elim (λ (e : phase p c ≡ phase q c). rw (e, s.comp_same b) refl)
+      (λ (m : IsEnding aim scripts p q c). rw (m.running, m.ended) (some_if_both (c == 0) Fault.StartMain Fault.AlreadyRunning Fault.NotStartable)) (s.phases c)
 
   special_ahead : IsAhead aim scripts p q → (n : ℕ) (op : Op) → is_some (special_fault n p op) ≡ is_some (special_fault n q op)
   unfolding components
@@ -154,13 +132,13 @@ module _ {aim : Verdict} {scripts : List ScriptView} {p q : List Entry} where
 
 -- ---- replies
 
-ended_goes_not : (r : Reply) → goes_on r ≡ true → is_ended r ≡ false
-ended_goes_not Reply.Ended h = absurd cc
-ended_goes_not _ h = refl
+pub on_not_ended : (r : Reply) → goes_on r ≡ true → is_ended r ≡ false
+on_not_ended Reply.Ended h = absurd cc
+on_not_ended _ h = refl
 
-answer_as : (n : ℕ) (past : List Entry) (b : ℕ) (op : Op) → is_active past b ≡ true → fault n past b op ≡ None → answer n past b op ≡ plain_answer past b op
+pub answer_plain : (n : ℕ) (past : List Entry) (b : ℕ) (op : Op) → is_active past b ≡ true → fault n past b op ≡ None → answer n past b op ≡ plain_answer past b op
 unfolding answer
-answer_as n past b op act h = rw (act, h) refl
+answer_plain n past b op act h = rw (act, h) refl
 
 module _ {aim : Verdict} {scripts : List ScriptView} {p q : List Entry} where
   plain_ahead : IsAhead aim scripts p q → (b : ℕ) (op : Op) → is_plain_call op ≡ true → goes_on (plain_answer p b op) ≡ true → plain_answer p b op ≡ plain_answer q b op
@@ -177,9 +155,9 @@ module _ {aim : Verdict} {scripts : List ScriptView} {p q : List Entry} where
   -- a call that is no error and is not parked is answered alike
   pub answer_ahead : IsAhead aim scripts p q → (n b : ℕ) (op : Op) → is_plain_call op ≡ true → is_active q b ≡ true → goes_on (answer n p b op) ≡ true → is_fault (answer n p b op) ≡ false → answer n p b op ≡ answer n q b op
   answer_ahead s n b op h act on plain =
-      let is = plain_if n p b op (answer n p b op) (ended_goes_not (answer n p b op) on) plain refl in
+      let is = plain_if n p b op (answer n p b op) (on_not_ended (answer n p b op) on) plain refl in
       let none : fault n q b op ≡ None = none_too (fault n p b op) (fault n q b op) (fault_ahead s n b op) is.no_fault in
-      is.is ∙ (plain_ahead s b op h (ap goes_on (sym is.is) ∙ on) ∙ sym (answer_as n q b op act none))
+      is.is ∙ (plain_ahead s b op h (ap goes_on (sym is.is) ∙ on) ∙ sym (answer_plain n q b op act none))
 
 -- ---- after more entries
 
@@ -188,7 +166,7 @@ abbrev pub KeepsQuiet : ℕ → List Entry → List Entry → Type 0
 KeepsQuiet n q r = (b : ℕ) (op : Op) → IsQuietAt n q b op → IsQuietAt n r b op
 
 pub leaving_later : {aim : Verdict} (scripts : List ScriptView) (q r : List Entry) (b : ℕ) (s : CourseState) → KeepsQuiet (length scripts) q r → IsLeaving aim scripts q b s → IsLeaving aim scripts r b s
-leaving_later {aim} scripts q r b s keeps l = record { parked = by_wake s.wake l.parked; calls = λ k m. by_bar k (l.calls k m) }
+leaving_later {aim} scripts q r b s keeps l = record { parked = by_wake s.wake l.parked; calls = λ k m. ⊎_elim (λ last. inl (by_call (call_at scripts b s s.comp k) last)) inr (l.calls k m) }
   where
     by_wake : (o : Option Op) → MatchOption o (Unit {0}) (λ wake. WasParked scripts q b s wake) → MatchOption o (Unit {0}) (λ wake. WasParked scripts r b s wake)
     by_wake None h = tt
@@ -198,25 +176,18 @@ leaving_later {aim} scripts q r b s keeps l = record { parked = by_wake s.wake l
     by_call op (inl h) = inl (keeps b op h)
     by_call op (inr h) = inr h
 
-    by_bar : (k : ℕ) → IsLastAt (length scripts) q b (call_at scripts b s s.comp k) ⊎ IsBarredBefore aim scripts b s k → IsLastAt (length scripts) r b (call_at scripts b s s.comp k) ⊎ IsBarredBefore aim scripts b s k
-    by_bar k (inl h) = inl (by_call (call_at scripts b s s.comp k) h)
-    by_bar k (inr h) = inr h
-
 pub ahead_self : {aim : Verdict} (scripts : List ScriptView) (p : List Entry) → IsAhead aim scripts p p
 ahead_self scripts p = record { comps_same = refl; phases = λ c. inl refl; kind_same = λ c. refl; comp_same = λ b. refl; no_better = omega arith }
+
+-- a run that is leaving is so after more entries, if it is on its component still, and that is killed after q
+pub ending_later : {aim : Verdict} {scripts : List ScriptView} {p q r s : List Entry} {c : ℕ} (n : IsEnding aim scripts p q c) → phase r c ≡ Phase.Running n.run → phase s c ≡ Phase.Killed → comp_of r n.run.0 ≡ comp_of p n.run.0 →
+    is_alive_type r c ≡ is_alive_type p c → IsLeaving aim scripts s n.run.0 (stand r n.run.0) → IsEnding aim scripts r s c
+ending_later n runs dead on kind leaving = record { run = n.run; running = runs; ended = dead; not_main = n.not_main; on = on ∙ n.on; ordinary = kind ∙ n.ordinary; leaving = leaving }
 
 -- a component whose phase stays as it is after q
 pub phase_later : {aim : Verdict} (scripts : List ScriptView) (p q r : List Entry) (c : ℕ) → phase r c ≡ phase q c → KeepsQuiet (length scripts) q r → (phase p c ≡ phase q c) ⊎ IsEnding aim scripts p q c → (phase p c ≡ phase r c) ⊎ IsEnding aim scripts p r c
 phase_later scripts p q r c same keeps (inl e) = inl (e ∙ sym same)
-phase_later scripts p q r c same keeps (inr n) = inr (record {
-  run = n.run;
-  running = n.running;
-  ended = same ∙ n.ended;
-  not_main = n.not_main;
-  on = n.on;
-  ordinary = n.ordinary;
-  leaving = leaving_later scripts q r n.run.0 (stand p n.run.0) keeps n.leaving;
-})
+phase_later scripts p q r c same keeps (inr n) = inr (ending_later n n.running (same ∙ n.ended) refl refl (leaving_later scripts q r n.run.0 (stand p n.run.0) keeps n.leaving))
 
 -- q changes to what is alike
 pub ahead_after : {aim : Verdict} (scripts : List ScriptView) (p q r : List Entry) → IsAhead aim scripts p q → IsAlike q r → KeepsQuiet (length scripts) q r → level_of (overall q) ≤ level_of (overall r) → IsAhead aim scripts p r
@@ -234,44 +205,31 @@ leaving_other {aim} scripts p q e c n cp other =
     let here : (stand p n.run.0).comp ≡ Some (record { 0 = c }) = stand_comp scripts p n.run.0 cp ∙ n.on in
     subst (λ s. IsLeaving aim scripts q n.run.0 s) (sym (stand_other p e n.run.0 (record { 0 = c }) other here)) n.leaving
 
+-- or of its own
+pub leaving_by : {aim : Verdict} (scripts : List ScriptView) (p q : List Entry) (e : Entry) (c : ℕ) (n : IsEnding aim scripts p q c) → IsCourse scripts p →
+    ((e.caller.0 == n.run.0) ≡ true → IsLeaving aim scripts q n.run.0 (stand (e ∷ p) n.run.0)) → IsLeaving aim scripts q n.run.0 (stand (e ∷ p) n.run.0)
+leaving_by scripts p q e c n cp own = ⊎_elim own (leaving_other scripts p q e c n cp) (cases_Bool (e.caller.0 == n.run.0))
+
 -- one more entry of p, after which all is alike
 pub ahead_turn : {aim : Verdict} (scripts : List ScriptView) (p q : List Entry) (e : Entry) → IsCourse scripts p → IsAlike (e ∷ p) p → IsAhead aim scripts p q →
     ((c : ℕ) (n : IsEnding aim scripts p q c) → (e.caller.0 == n.run.0) ≡ true → IsLeaving aim scripts q n.run.0 (stand (e ∷ p) n.run.0)) → level_of (overall (e ∷ p)) ≤ level_of (overall q) → IsAhead aim scripts (e ∷ p) q
 ahead_turn {aim} scripts p q e cp a s own better = record {
   comps_same = a.comps_same ∙ s.comps_same;
-  phases = λ c. by_phase c (s.phases c);
+  phases = λ c.
+      ⊎_elim (λ (h : phase p c ≡ phase q c). inl (a.phase_same c ∙ h))
+      (λ (n : IsEnding aim scripts p q c). inr (ending_later n (a.phase_same c ∙ n.running) n.ended (a.comp_same n.run.0) (a.kind_same c) (leaving_by scripts p q e c n cp (own c n)))) (s.phases c);
   kind_same = λ c. a.kind_same c ∙ s.kind_same c;
   comp_same = λ b. a.comp_same b ∙ s.comp_same b;
   no_better = better;
 }
-  where
-    by_test : (c : ℕ) (n : IsEnding aim scripts p q c) → (t : Bool) → (e.caller.0 == n.run.0) ≡ t → IsLeaving aim scripts q n.run.0 (stand (e ∷ p) n.run.0)
-    by_test c n true k = own c n k
-    by_test c n false k = leaving_other scripts p q e c n cp k
-
-    by_phase : (c : ℕ) → (phase p c ≡ phase q c) ⊎ IsEnding aim scripts p q c → (phase (e ∷ p) c ≡ phase q c) ⊎ IsEnding aim scripts (e ∷ p) q c
-    by_phase c (inl h) = inl (a.phase_same c ∙ h)
-    by_phase c (inr n) = inr (record {
-      run = n.run;
-      running = a.phase_same c ∙ n.running;
-      ended = n.ended;
-      not_main = n.not_main;
-      on = a.comp_same n.run.0 ∙ n.on;
-      ordinary = a.kind_same c ∙ n.ordinary;
-      leaving = by_test c n (e.caller.0 == n.run.0) refl;
-    })
 
 -- ---- the same entry of both
 
 pub not_started : (n : ℕ) (past : List Entry) (e : Entry) (c : ℕ) (r : Run) → IsLegal n (e ∷ past) → phase past c ≡ Phase.Running r → start_in e c ≡ None
-not_started n past e c r legal running = by_some (start_in e c) refl
-  where
-    by_some : (o : Option Run) → start_in e c ≡ o → o ≡ None
-    by_some None k = refl
-    by_some (Some x) k =
-        let off : is_running (phase past c) ≡ false = starts_still n past e c x legal.0 k in
-        let on : is_running (phase past c) ≡ true = ap is_running running in
-        absurd cc
+not_started n past e c r legal running = none_unless (start_in e c) (λ x k.
+    let off : is_running (phase past c) ≡ false = starts_still n past e c x legal.0 k in
+    let on : is_running (phase past c) ≡ true = ap is_running running in
+    cc)
 
 module _ {aim : Verdict} (scripts : List ScriptView) (p q : List Entry) (e : Entry) (cp : IsCourse scripts p) (lp : IsLegal (length scripts) (e ∷ p)) (lq : IsLegal (length scripts) (e ∷ q)) (s : IsAhead aim scripts p q)
     (act : is_active q e.caller.0 ≡ true) (keeps : KeepsQuiet (length scripts) q (e ∷ q)) where
@@ -300,34 +258,19 @@ module _ {aim : Verdict} (scripts : List ScriptView) (p q : List Entry) (e : Ent
       by_tests : (k h : Bool) → kills e c ≡ k → halts (comp_of p e.caller.0) e c ≡ h → (phase (e ∷ p) c ≡ phase (e ∷ q) c) ⊎ IsEnding aim scripts (e ∷ p) (e ∷ q) c
       by_tests true h i j = inl (after_p ∙ (rw i refl ∙ sym after_q))
       by_tests false true i j = inl (after_p ∙ (rw (i, j) refl ∙ sym after_q))
-      by_tests false false i j = inr (record {
-        run = n.run;
-        running = after_p ∙ rw (i, j) refl;
-        ended = after_q ∙ rw (i, j) refl;
-        not_main = n.not_main;
-        on = rw n.on refl;
-        ordinary = rw (there, n.ordinary) refl;
-        leaving = leaving_later scripts q (e ∷ q) n.run.0 (stand (e ∷ p) n.run.0) keeps (leaving_other scripts p q e c n cp (not_ending_run s e.caller.0 act c n));
-      })
+      by_tests false false i j = inr (ending_later n (after_p ∙ rw (i, j) refl) (after_q ∙ rw (i, j) refl) (rw n.on refl) (rw (there, n.ordinary) refl)
+          (leaving_later scripts q (e ∷ q) n.run.0 (stand (e ∷ p) n.run.0) keeps (leaving_other scripts p q e c n cp (not_ending_run s e.caller.0 act c n))))
 
   -- what is killed after q was so before, or is killed after p too
   pub died_before : (c : ℕ) → phase (e ∷ q) c ≡ Phase.Killed → (phase q c ≡ Phase.Killed) ⊎ (phase (e ∷ p) c ≡ Phase.Killed)
-  died_before c dead = by_phase (s.phases c)
-    where
-      by_phase : (phase p c ≡ phase q c) ⊎ IsEnding aim scripts p q c → (phase q c ≡ Phase.Killed) ⊎ (phase (e ∷ p) c ≡ Phase.Killed)
-      by_phase (inl h) = inr (after_same c h ∙ dead)
-      by_phase (inr n) = inl n.ended
+  died_before c dead = ⊎_elim (λ h. inr (after_same c h ∙ dead)) (λ (n : IsEnding aim scripts p q c). inl n.ended) (s.phases c)
 
   pub ahead_step : IsAhead aim scripts (e ∷ p) (e ∷ q)
   unfolding exists
   ahead_step = record {
     comps_same = ap (add_new (created e.op e.reply)) s.comps_same;
-    phases = λ c. by_phase c (s.phases c);
+    phases = λ c. ⊎_elim (λ h. inl (after_same c h)) (after_ending c) (s.phases c);
     kind_same = λ c. rw (s.comps_same, s.kind_same c) refl;
     comp_same = λ b. rw (s.comp_same b) refl;
-    no_better = rw (overall_next (length scripts) p e lp, overall_next (length scripts) q e lq) (next_no_better (gives e.op e.reply) (overall p) (overall q) s.no_better);
+    no_better = rw (overall_more (length scripts) p e lp, overall_more (length scripts) q e lq) (next_no_better (gives e.op e.reply) (overall p) (overall q) s.no_better);
   }
-    where
-      by_phase : (c : ℕ) → (phase p c ≡ phase q c) ⊎ IsEnding aim scripts p q c → (phase (e ∷ p) c ≡ phase (e ∷ q) c) ⊎ IsEnding aim scripts (e ∷ p) (e ∷ q) c
-      by_phase c (inl h) = inl (after_same c h)
-      by_phase c (inr n) = after_ending c n

@@ -1,16 +1,20 @@
 -- Histories that are alike are answered alike, except for questions, and are alike after the same entry.
-use Rattle.std.{proofs.{lemmas.Bool.{or_parts, or_right, Decides.nat_tests}, Common.{ℕ, ◌≡◌, ◌==◌, ◌&&◌, ◌||◌, not, if◌then◌else◌, nat_lt, Bool, true, false, Option, Some, None, is_some, List, [], ◌∷◌, ◌++◌, length, drop, map, refl, ap, sym, ◌∙◌, arith, ◌≤◌}}, specs.List.{list_any, list_all}}
-use Rattle.tc_rules.{specs.{Prelude.{Run, Verdict, worse, worst, level_of, Comp, Entry, Op, Target, Phase, comps, comp_of, ptcs, exists, is_in, is_comp, is_alive_type, created, started_on, first_some, add_new, halts, kills, phase, phase_if_any, start_in, done, killed, is_running, is_killed, is_done, local, overall, gives, verdicts_of, holds, fault, names, special_fault, start_fault, components, answer, is_active, is_active_on, is_run_of, IsLegal, Group, Reply}, Inside.{Kept.{blank, state_of}, Step.{next_local, next_phase, next_state}}, declared.{awaited.Awaited.Awaited, component_state.ComponentState.ComponentState}}, proofs.Lemmas.{Deciding.{equal_if, if_same, self_equal}, Fresh.fresh_step, Keeping.{all_exist_same, kill_halts}, LawsOfHistories.killed_was_halted, Over.{on_existing, stays}, Sound.starts, Steps.state_step}}
-use Rattle.tc_verdict.proofs.Lemmas.Order.{worse_later, worse_swap, worse_left, worse_right}
+use Rattle.std.{proofs.{lemmas.Bool.{or_parts, or_right, false_from_ne_true}, Common.{ℕ, ◌≡◌, ◌==◌, ◌&&◌, ◌||◌, not, if◌then◌else◌, nat_lt, Bool, true, false, Option, Some, None, is_some, List, [], ◌∷◌, ◌++◌, length, drop, refl, ap, sym, ◌∙◌, arith, ◌≤◌}}, specs.List.{list_any, list_all}}
+use Rattle.tc_rules.{specs.{Prelude.{Verdict, worse, worst, level_of, Comp, Entry, Op, Target, Phase, comps, comp_of, ptcs, exists, is_in, is_comp, is_alive_type, created, started_on, first_some, add_new, halts, kills, phase, phase_if_any, start_in, done, killed, is_running, is_killed, is_done, local, overall, gives, verdicts_of, holds, fault, names, special_fault, start_fault, components, is_active, is_active_on, is_run_of, IsLegal, Group}, Inside.{Kept.{blank, state_of}, Step.{next_local, next_phase, next_state}}, declared.{awaited.Awaited.Awaited, component_state.ComponentState.ComponentState}}, proofs.Lemmas.{Deciding.{equal_if, self_equal, none_if, first_alone}, Fresh.fresh_step, Keeping.{all_exist_same, kill_halts}, LawsOfHistories.killed_was_halted, Sound.starts, Steps.state_step, Decided.{overall_more, no_better, not_on, not_before}}}
+use Rattle.tc_verdict.proofs.Lemmas.Order.{worse_left, worse_right}
 use Rattle.tc_explore.specs.Inside.Simulation.{IsAlike, is_gone, is_late, is_met}
 
 -- ---- what is the same
+
+pub none_unless : {A : Type 0} (o : Option A) → ((x : A) → o ≡ Some x → ⊥) → o ≡ None
+none_unless None h = refl
+none_unless (Some x) h = absurd (h x refl)
 
 any_same : {A : Type 0} (f g : A → Bool) (xs : List A) → ((x : A) → f x ≡ g x) → list_any f xs ≡ list_any g xs
 any_same f g [] h = refl
 any_same f g (x ∷ xs) h = rw (h x, any_same f g xs h)
 
-all_same : {A : Type 0} (f g : A → Bool) (xs : List A) → ((x : A) → f x ≡ g x) → list_all f xs ≡ list_all g xs
+pub all_same : {A : Type 0} (f g : A → Bool) (xs : List A) → ((x : A) → f x ≡ g x) → list_all f xs ≡ list_all g xs
 all_same f g [] h = refl
 all_same f g (x ∷ xs) h = rw (h x, all_same f g xs h)
 
@@ -108,55 +112,26 @@ in_last c (n ∷ ns) = rw (in_last c ns) (or_right (c == n) true refl)
 
 not_made : (o : Option Comp) (c : ℕ) (ns : List ℕ) → is_in c (add_new o ns) ≡ false → is_comp o c ≡ false
 not_made None c ns h = refl
-not_made (Some d) c ns h = by_test (d.0 == c) refl
+not_made (Some d) c ns h = false_from_ne_true (d.0 == c) (λ k.
+    let same : d.0 ≡ c = equal_if d.0 c k in
+    let here : is_in c (add_new (Some d) ns) ≡ true = rw same (by_in (is_in c ns) refl) in
+    cc)
   where
     by_in : (t : Bool) → is_in c ns ≡ t → is_in c (if t then ns else ns ++ c ∷ []) ≡ true
     by_in true k = k
     by_in false k = in_last c ns
 
-    by_test : (t : Bool) → (d.0 == c) ≡ t → t ≡ false
-    by_test false k = refl
-    by_test true k =
-        let same : d.0 ≡ c = equal_if d.0 c k in
-        let here : is_in c (add_new (Some d) ns) ≡ true = rw same (by_in (is_in c ns) refl) in
-        absurd cc
-
--- what an entry starts, and who calls it, exists
+-- what an entry starts exists
 no_start : (n : ℕ) (past : List Entry) (e : Entry) (c : ℕ) → IsLegal n (e ∷ past) → exists past c ≡ false → start_in e c ≡ None
-no_start n past e c legal out = by_some (start_in e c) refl
-  where
-    by_some : (o : Option Run) → start_in e c ≡ o → o ≡ None
-    by_some None k = refl
-    by_some (Some r) k = let there = (starts n past e c legal.0 (ap is_some k)).known in absurd cc
-
-no_caller : (n : ℕ) (past : List Entry) (b c : ℕ) → IsLegal n past → exists past c ≡ false → is_comp (comp_of past b) c ≡ false
-no_caller n past b c legal out = by_comp (comp_of past b) refl
-  where
-    by_comp : (o : Option Comp) → comp_of past b ≡ o → is_comp o c ≡ false
-    by_comp None k = refl
-    by_comp (Some d) k = by_test (d.0 == c) refl
-      where
-        by_test : (t : Bool) → (d.0 == c) ≡ t → t ≡ false
-        by_test false j = refl
-        by_test true j =
-            let there : exists past d.0 ≡ true = on_existing n past b d legal k in
-            let same : d.0 ≡ c = equal_if d.0 c j in
-            absurd cc
-
-was_out : (past : List Entry) (e : Entry) (c : ℕ) → exists (e ∷ past) c ≡ false → exists past c ≡ false
-was_out past e c out = by_test (exists past c) refl
-  where
-    by_test : (t : Bool) → exists past c ≡ t → t ≡ false
-    by_test false k = refl
-    by_test true k = let there = stays past e c k in absurd cc
+no_start n past e c legal out = none_unless (start_in e c) (λ r k. let there = (starts n past e c legal.0 (ap is_some k)).known in cc)
 
 -- a component that is not yet made is blank
 pub fresh : (n : ℕ) (past : List Entry) (c : ℕ) → IsLegal n past → exists past c ≡ false → state_of past c ≡ blank
 unfolding exists phase local
 fresh n [] c legal out = let t : (c == 0) ≡ false = (or_parts (c == 0) false out).0 in rw t refl
 fresh n (e ∷ past) c legal out =
-    let before : exists past c ≡ false = was_out past e c out in
-    fresh_step past e c before (no_start n past e c legal before) (no_caller n past e.caller.0 c legal.1 before) (fresh n past c legal.1 before)
+    let before : exists past c ≡ false = not_before past e c out in
+    fresh_step past e c before (no_start n past e c legal before) (not_on n past e.caller.0 c legal.1 before) (fresh n past c legal.1 before)
     ∙ rw (not_made (created e.op e.reply) c (comps past) out) refl
 
 -- what a component is doing after one more entry
@@ -168,9 +143,9 @@ phase_next n past e c legal = by_test (exists past c) refl
     by_test : (t : Bool) → exists past c ≡ t →
         phase (e ∷ past) c ≡ (if t then next_phase (kills e c) (start_in e c) (halts (comp_of past e.caller.0) e c) (is_alive_type past c) (phase past c) else Phase.Inactive)
     by_test true k = ap (λ (s : ComponentState). s.phase) (state_step past e c k (killed_was_halted n past c legal.1) (λ s. (starts n past e c legal.0 s).alive))
-    by_test false k = ap (λ (s : ComponentState). s.phase) (fresh_step past e c k (no_start n past e c legal k) (no_caller n past e.caller.0 c legal.1 k) (fresh n past c legal.1 k))
+    by_test false k = ap (λ (s : ComponentState). s.phase) (fresh_step past e c k (no_start n past e c legal k) (not_on n past e.caller.0 c legal.1 k) (fresh n past c legal.1 k))
 
--- ---- the overall verdict
+-- ---- verdicts
 
 worst_both : (vs ws : List Verdict) → worst (vs ++ ws) ≡ next_local vs (worst ws)
 worst_both [] ws = refl
@@ -185,88 +160,6 @@ pub local_next : (past : List Entry) (e : Entry) (c : ℕ) →
 unfolding local
 local_next past e c = local_by (is_comp (comp_of past e.caller.0) c) (gives e.op e.reply) (verdicts_of past c)
 
-map_same : (f g : ℕ → Verdict) (xs : List ℕ) → ((x : ℕ) → f x ≡ g x) → map f xs ≡ map g xs
-map_same f g [] h = refl
-map_same f g (x ∷ xs) h = rw (h x, map_same f g xs h)
-
-worse_of_worse : (w a v : Verdict) → worse w (worse a v) ≡ worse (worse w a) v
-worse_of_worse w a v = by_test (nat_lt (level_of a) (level_of v)) refl
-  where
-    by_test : (t : Bool) → nat_lt (level_of a) (level_of v) ≡ t → worse w (if t then v else a) ≡ worse (worse w a) v
-    by_test true h = worse_later w a v (grind (arith, nat_tests))
-    by_test false h = worse_later w v a (grind (arith, nat_tests)) ∙ worse_swap w a v
-
-worst_step : (t i : Bool) (w a v : Verdict) →
-    worse (if i then worse w v else w) (if t then worse a v else a) ≡ (if t || i then worse (worse w a) v else worse w a)
-worst_step false false w a v = refl
-worst_step false true w a v = worse_swap w a v
-worst_step true false w a v = worse_of_worse w a v
-worst_step true true w a v =
-    worse_of_worse (worse w v) a v ∙ (ap (λ z. worse z v) (worse_swap w a v) ∙ sym (worse_later (worse w a) v v (omega arith)))
-
-worst_more : (f : ℕ → Verdict) (d : ℕ) (v : Verdict) (cs : List ℕ) →
-    worst (map (λ c. if d == c then worse (f c) v else f c) cs) ≡ (if is_in d cs then worse (worst (map f cs)) v else worst (map f cs))
-worst_more f d v [] = refl
-worst_more f d v (x ∷ xs) =
-    ap (λ z. worse z (if d == x then worse (f x) v else f x)) (worst_more f d v xs) ∙ worst_step (d == x) (is_in d xs) (worst (map f xs)) (f x) v
-
-if_more : (t : Bool) (a b v : Verdict) → (if t then worse a v else b) ≡ (if t then worse (if t then a else b) v else (if t then a else b))
-if_more true a b v = refl
-if_more false a b v = refl
-
-if_both : (i : Bool) (a b v : Verdict) → (if i then worse (if i then a else b) v else (if i then a else b)) ≡ (if i then worse a v else b)
-if_both true a b v = refl
-if_both false a b v = refl
-
-worst_list : (f : ℕ → Verdict) (d : ℕ) (vs : List Verdict) (cs : List ℕ) →
-    worst (map (λ c. if d == c then next_local vs (f c) else f c) cs) ≡ (if is_in d cs then next_local vs (worst (map f cs)) else worst (map f cs))
-worst_list f d [] cs = ap worst (map_same _ f cs (λ c. if_same (d == c) (f c))) ∙ sym (if_same (is_in d cs) (worst (map f cs)))
-worst_list f d (v ∷ vs) cs =
-    let g : ℕ → Verdict = λ c. if d == c then next_local vs (f c) else f c in
-    ap worst (map_same _ (λ c. if d == c then worse (g c) v else g c) cs (λ c. if_more (d == c) (next_local vs (f c)) (f c) v))
-    ∙ (worst_more g d v cs
-    ∙ (ap (λ z. if is_in d cs then worse z v else z) (worst_list f d vs cs) ∙ if_both (is_in d cs) (next_local vs (worst (map f cs))) (worst (map f cs)) v))
-
-worst_none : (f : ℕ → Verdict) (m : ℕ) (cs : List ℕ) → f m ≡ Verdict.None → worst (map f (cs ++ m ∷ [])) ≡ worst (map f cs)
-worst_none f m [] h = rw h refl
-worst_none f m (x ∷ xs) h = ap (λ z. worse z (f x)) (worst_none f m xs h)
-
-no_gift : (n : ℕ) (past : List Entry) (e : Entry) → IsLegal n (e ∷ past) → comp_of past e.caller.0 ≡ None → gives e.op e.reply ≡ []
-unfolding answer is_active
-no_gift n past e legal none = let r : e.reply ≡ Reply.Ended = legal.0 ∙ rw none refl in rw r refl
-
-overall_by : (n : ℕ) (past : List Entry) (e : Entry) → IsLegal n (e ∷ past) →
-    worst (map (local (e ∷ past)) (comps past)) ≡ next_local (gives e.op e.reply) (worst (map (local past) (comps past)))
-unfolding exists
-overall_by n past e legal = by_comp (comp_of past e.caller.0) refl
-  where
-    by_comp : (o : Option Comp) → comp_of past e.caller.0 ≡ o → worst (map (local (e ∷ past)) (comps past)) ≡ next_local (gives e.op e.reply) (worst (map (local past) (comps past)))
-    by_comp None k =
-        ap worst (map_same _ (local past) (comps past) (λ c. local_next past e c ∙ rw k refl)) ∙ rw (no_gift n past e legal k) refl
-    by_comp (Some d) k =
-        let there : is_in d.0 (comps past) ≡ true = on_existing n past e.caller.0 d legal.1 k in
-        ap worst (map_same _ (λ c. if d.0 == c then next_local (gives e.op e.reply) (local past c) else local past c) (comps past) (λ c. local_next past e c ∙ rw k refl))
-        ∙ (worst_list (local past) d.0 (gives e.op e.reply) (comps past) ∙ rw there refl)
-
--- the overall verdict after one more entry
-pub overall_next : (n : ℕ) (past : List Entry) (e : Entry) → IsLegal n (e ∷ past) → overall (e ∷ past) ≡ next_local (gives e.op e.reply) (overall past)
-unfolding overall exists
-overall_next n past e legal = by_made (created e.op e.reply) refl
-  where
-    by_made : (o : Option Comp) → created e.op e.reply ≡ o → worst (map (local (e ∷ past)) (add_new o (comps past))) ≡ next_local (gives e.op e.reply) (worst (map (local past) (comps past)))
-    by_made None k = overall_by n past e legal
-    by_made (Some m) k = by_in (is_in m.0 (comps past)) refl
-      where
-        by_in : (t : Bool) → is_in m.0 (comps past) ≡ t →
-            worst (map (local (e ∷ past)) (if t then comps past else comps past ++ m.0 ∷ [])) ≡ next_local (gives e.op e.reply) (worst (map (local past) (comps past)))
-        by_in true j = overall_by n past e legal
-        by_in false j =
-            let none : local past m.0 ≡ Verdict.None = ap (λ (s : ComponentState). s.local) (fresh n past m.0 legal.1 j) in
-            let after : local (e ∷ past) m.0 ≡ Verdict.None = local_next past e m.0 ∙ rw (no_caller n past e.caller.0 m.0 legal.1 j) none in
-            worst_none (local (e ∷ past)) m.0 (comps past) after ∙ overall_by n past e legal
-
--- ---- it gets no better
-
 pub worse_most : (a v : Verdict) (n : ℕ) → level_of a ≤ n → level_of v ≤ n → level_of (worse a v) ≤ n
 worse_most a v n k l = by_test (nat_lt (level_of a) (level_of v))
   where
@@ -274,12 +167,8 @@ worse_most a v n k l = by_test (nat_lt (level_of a) (level_of v))
     by_test true = l
     by_test false = k
 
-never_better : (vs : List Verdict) (w : Verdict) → level_of w ≤ level_of (next_local vs w)
-never_better [] w = omega arith
-never_better (v ∷ vs) w = let l = never_better vs w in let m = worse_left (next_local vs w) v in omega (arith, l, m)
-
 pub overall_grows : (n : ℕ) (past : List Entry) (e : Entry) → IsLegal n (e ∷ past) → level_of (overall past) ≤ level_of (overall (e ∷ past))
-overall_grows n past e legal = rw (overall_next n past e legal) (never_better (gives e.op e.reply) (overall past))
+overall_grows n past e legal = rw (overall_more n past e legal) (no_better (gives e.op e.reply) (overall past))
 
 -- what is no better stays so
 pub next_no_better : (vs : List Verdict) (w x : Verdict) → level_of w ≤ level_of x → level_of (next_local vs w) ≤ level_of (next_local vs x)
@@ -307,19 +196,11 @@ pub record ChangesNothing (past : List Entry) (e : Entry) : Type 0 where
   pub no_halt : (c : ℕ) → halts (comp_of past e.caller.0) e c ≡ false
 
 none_killed : (past : List Entry) (e : Entry) → ChangesNothing past e → (c : ℕ) → kills e c ≡ false
-none_killed past e u c = by_test (kills e c) refl
-  where
-    by_test : (t : Bool) → kills e c ≡ t → t ≡ false
-    by_test false k = refl
-    by_test true k = let h = kill_halts (comp_of past e.caller.0) e c k in let j = u.no_halt c in absurd cc
+none_killed past e u c = false_from_ne_true (kills e c) (λ k. let h = kill_halts (comp_of past e.caller.0) e c k in let j = u.no_halt c in cc)
 
 pub kept_by : (t : Bool) (ph : Phase) → (t ≡ false → ph ≡ Phase.Inactive) → (if t then ph else Phase.Inactive) ≡ ph
 kept_by true ph h = refl
 kept_by false ph h = sym (h refl)
-
-pub first_kept : (o : Option Comp) → first_some o None ≡ o
-first_kept (Some x) = refl
-first_kept None = refl
 
 pub kind_kept : (t x : Bool) → (t ≡ false → x ≡ false) → (if t then x else false) ≡ x
 kind_kept true x h = refl
@@ -333,5 +214,5 @@ alike_unchanged n past e legal u = record {
       ∙ (rw (none_killed past e u c, u.no_start c, u.no_halt c) refl
       ∙ kept_by (exists past c) (phase past c) (λ k. ap (λ (s : ComponentState). s.phase) (fresh n past c legal.1 k)));
   kind_same = λ c. rw u.made (kind_kept (exists past c) (is_alive_type past c) (λ k. ap (λ (s : ComponentState). s.alive_type) (fresh n past c legal.1 k)));
-  comp_same = λ b. ap (first_some (comp_of past b)) (u.no_run b) ∙ first_kept (comp_of past b);
+  comp_same = λ b. ap (first_some (comp_of past b)) (u.no_run b) ∙ first_alone (comp_of past b);
 }

@@ -1,11 +1,11 @@
 -- If whatever comes after each seen history is seen, or its verdict is found, the verdict of every complete course is
 -- found.
-use Rattle.std.{proofs.{lemmas.Bool.{both_ways, not-true, or_parts, Decides.nat_tests}, Common.{ℕ, zero, suc, ◌≡◌, ◌<◌, ◌≤◌, ◌==◌, ◌&&◌, ◌||◌, ◌⊎◌, inl, inr, ⊎_elim, not, nat_lt, if◌then◌else◌, Bool, true, false, Option, Some, None, is_some, MatchOption, List, [], ◌∷◌, length, slice_get, refl, ap, sym, subst, ◌∙◌, arith}}, specs.Option.unwrap_or}
-use Rattle.tc_rules.{specs.{Prelude.{Verdict, worse, level_of, Comp, Entry, Op, Target, Phase, Reply, Fault, is_ended, is_fault, is_wake, comp_of, comps, exists, is_in, created, started_on, ends_case, is_over, phase, overall, gives, holds, waiting, waits_in_vain, is_still, is_stuck, awaited, fault, all_exist, answer, plain_answer, wake_reply, is_active, is_active_on, is_run_of, IsLegal, UserVerdict, given}, declared.awaited.Awaited.Awaited}, proofs.Lemmas.{Deciding.{and_right, equal_if}, Going.started_by_entry, Over.{all_over, on_existing}, Stuck.one_false}}
+use Rattle.std.{proofs.{lemmas.Bool.{both_ways, not-true, or_parts, cases_lt, true_from_ne_false}, Common.{ℕ, zero, suc, ◌≡◌, ◌<◌, ◌≤◌, ◌==◌, ◌&&◌, ◌||◌, ◌⊎◌, inl, inr, ⊎_elim, if◌then◌else◌, Bool, true, false, Option, Some, None, is_some, MatchOption, List, [], ◌∷◌, length, slice_get, refl, ap, sym, subst, ◌∙◌, arith}}, specs.Option.unwrap_or}
+use Rattle.tc_rules.{specs.{Prelude.{Verdict, worse, level_of, Comp, Entry, Op, Target, Phase, Reply, Fault, is_ended, is_fault, is_wake, comp_of, comps, exists, is_in, created, started_on, ends_case, is_over, phase, overall, gives, holds, waiting, waits_in_vain, is_still, is_stuck, awaited, fault, all_exist, answer, plain_answer, wake_reply, is_active, is_active_on, is_run_of, IsLegal, UserVerdict, given}, declared.awaited.Awaited.Awaited}, proofs.Lemmas.{Deciding.{and_right, equal_if, self_equal}, Going.started_by_entry, Over.{all_over, on_existing}, Stuck.one_false, Decided.overall_more}}
 use Rattle.tc_step.specs.Prelude.{ScriptView}
-use Rattle.tc_course.{specs.{Inside.{call_of, wake_if}, declared.witness.Witness.Witness, Prelude.{CourseState, stand, goes_on, after_own, after_other_by, is_idle, turn, steps_of, IsTurn, IsCourse, IsComplete, is_found}}, proofs.Lemmas.{course_legal, HasTurn, has_turn, turn_of, never_wake, stand_own, stand_comp, stand_unstarted, unstarted, IsAwaitedBy, waiting_wake, wake_after_other, run_in_range}}
+use Rattle.tc_course.{specs.{Inside.{call_of, wake_if, ends}, declared.witness.Witness.Witness, Prelude.{CourseState, stand, goes_on, after_own, after_other_by, is_idle, turn, steps_of, IsTurn, IsCourse, IsComplete, is_found}}, proofs.Lemmas.{course_legal, HasTurn, has_turn, turn_of, stand_own, stand_comp, stand_unstarted, unstarted, IsAwaitedBy, waiting_wake, wake_after_other, run_in_range, other_not_idle}}
 use Rattle.tc_verdict.proofs.Lemmas.Order.{worse_right}
-use Rattle.tc_explore.{specs.Inside.{Seen.IsToldBy, Simulation.{AreOrdered, GoesOn, IsAhead, IsAlike, IsBarredBefore, IsBefore, IsClosed, IsCovered, IsEnding, IsFollowed, IsFor, IsLastAt, IsLeaving, IsParkedAt, IsQuietAt, IsWakeOf, IsWithin, WasParked, call_at, is_barred, is_late, is_met, is_quiet, is_spent, place_of}}, proofs.{Ahead.{active_back, active_forth, ahead_after, ahead_self, ahead_step, ahead_turn, answer_ahead, died_before, ended_inactive, ending_active, fault_ahead, holds_ahead, none_too, not_ending_run, some_too}, Alike.{ChangesNothing, active_alike, alike_sym, alike_unchanged, holds_alike, is_plain_call, next_within, overall_grows, overall_next}, Late.{IsGone, IsMetFor, ahead_late, halt_not_ending, late_for, late_free, late_halts, late_reply, met_for, met_holds, met_or_parked, met_reply, other_than_gone}, Leaving.{Ends, after_end, ends_no_case, running_on}, Ordered.order_opening, Places.{Spent, barred_sets, behind, followed_self, how_spent, keeps_quiet, leaving_on, leaving_parked, leaving_woken, loud_not_quiet, not_ending, parked, quiet_free, quiet_no_wake, quiet_sets_no_wake, together, woken, woken_behind, or_no}, Simulation.{both, ended_kept, quiet_within, some_if, stay, stutter, unchanged_ended, unchanged_quiet, unchanged_wait, unchanged_wake, wait_kept, wake_kept}}}
+use Rattle.tc_explore.{specs.Inside.{Seen.IsToldBy, Simulation.{AreOrdered, GoesOn, IsAhead, IsAlike, IsBarredBefore, IsBefore, IsClosed, IsCovered, IsEnding, IsFollowed, IsFor, IsLastAt, IsLeaving, IsParkedAt, IsQuietAt, IsWakeOf, IsWithin, WasParked, call_at, is_barred, is_met, is_quiet, is_spent, place_of}}, proofs.{Ahead.{answer_plain, active_back, active_forth, ahead_after, ahead_self, ahead_step, ahead_turn, answer_ahead, died_before, ended_inactive, ending_active, fault_ahead, holds_ahead, none_too, not_ending_run, some_too}, Alike.{ChangesNothing, active_alike, alike_sym, alike_unchanged, holds_alike, is_plain_call, next_within, overall_grows}, Late.{IsMetFor, ahead_late, halt_not_ending, late_for, late_free, late_halts, late_reply, met_for, met_holds, met_or_parked, met_reply, other_than_gone, HaltsOne}, Leaving.{Ends, running_on, calls_as, end_halts}, Ordered.order_opening, Places.{Spent, barred_sets, behind, followed_self, how_spent, keeps_quiet, leaving_on, leaving_parked, leaving_woken, loud_not_quiet, not_ending, parked, quiet_free, quiet_no_wake, quiet_sets_no_wake, together, woken, woken_behind, or_no, next_of, next_plain, wake_of_turn}, Simulation.{both, ended_kept, quiet_within, some_if, stay, stutter, unchanged_ended, unchanged_quiet, unchanged_wait, unchanged_wake, wait_kept, wake_kept}}}
 
 -- what is found of a course, or represents it
 pub record IsTold (aim : Verdict) (scripts : List ScriptView) (Seen : List Entry → Type 0) (found : List Witness) (p : List Entry) : Type 0 where
@@ -22,10 +22,6 @@ SeenIsClosed aim scripts Seen found =
 pub answer_fault : (n : ℕ) (past : List Entry) (b : ℕ) (op : Op) (f : Fault) → is_active past b ≡ true → fault n past b op ≡ Some f → answer n past b op ≡ Reply.Fault f
 unfolding answer
 answer_fault n past b op f act h = rw (act, h) refl
-
-pub answer_plain : (n : ℕ) (past : List Entry) (b : ℕ) (op : Op) → is_active past b ≡ true → fault n past b op ≡ None → answer n past b op ≡ plain_answer past b op
-unfolding answer
-answer_plain n past b op act h = rw (act, h) refl
 
 pub answer_inactive : (n : ℕ) (past : List Entry) (b : ℕ) (op : Op) → is_active past b ≡ false → answer n past b op ≡ Reply.Ended
 unfolding answer
@@ -91,10 +87,6 @@ pub loud_sets_no_wake : (op : Op) (r : Reply) → goes_on r ≡ true → wake_if
 loud_sets_no_wake op Reply.Parked h = absurd cc
 loud_sets_no_wake op _ h = refl
 
-idle_never : (op : Op) (r : Reply) → is_wake op ≡ false → is_idle op r ≡ false
-idle_never op Reply.Parked h = h
-idle_never op _ h = refl
-
 pub error_is_worst : (w : Verdict) → worse w Verdict.Error ≡ Verdict.Error
 error_is_worst Verdict.None = refl
 error_is_worst _ = refl
@@ -138,19 +130,29 @@ turn_in scripts p q e me g =
 fresh_stand : (past : List Entry) (e : Entry) (b : ℕ) → (e.caller.0 == b) ≡ false → stand past b ≡ unstarted → stand (e ∷ past) b ≡ after_other_by None e b unstarted
 fresh_stand past e b other un = rw (other, un) refl
 
-module _ {aim : Verdict} {scripts : List ScriptView} {p q : List Entry} where
-  -- a run that continues after q is not leaving
-  no_leaving : (e : Entry) → IsFor aim scripts q p → is_active q e.caller.0 ≡ true →
-      (c : ℕ) (n : IsEnding aim scripts p q c) → (e.caller.0 == n.run.0) ≡ true → IsLeaving aim scripts q n.run.0 (stand (e ∷ p) n.run.0)
-  no_leaving e f act c n k = let other : (e.caller.0 == n.run.0) ≡ false = not_ending_run f.ahead e.caller.0 act c n in absurd cc
+number_of : (x y : Comp) → Some x ≡ Some y → x.0 ≡ y.0
+number_of x y h = let same : x ≡ y = cc in ap (λ (z : Comp). z.0) same
 
-  -- nor one that does not continue after p
-  none_leaving : (e : Entry) → is_active p e.caller.0 ≡ false →
-      (c : ℕ) (n : IsEnding aim scripts p q c) → (e.caller.0 == n.run.0) ≡ true → IsLeaving aim scripts q n.run.0 (stand (e ∷ p) n.run.0)
-  none_leaving e off c n k =
-      let same : is_active p e.caller.0 ≡ is_active p n.run.0 = ap (is_active p) (equal_if e.caller.0 n.run.0 k) in
-      let on : is_active p n.run.0 ≡ true = ending_active c n in
-      absurd cc
+-- after a turn of p its caller is where q has it or before, or is leaving still
+pub record IsPlaced (aim : Verdict) (scripts : List ScriptView) (p q : List Entry) (e : Entry) : Type 0 where
+  pub own : (c : ℕ) (n : IsEnding aim scripts p q c) → (e.caller.0 == n.run.0) ≡ true → IsLeaving aim scripts q n.run.0 (stand (e ∷ p) n.run.0)
+  pub follows : is_active q e.caller.0 ≡ true → IsFollowed scripts q e.caller.0 (stand (e ∷ p) e.caller.0) (stand q e.caller.0)
+
+-- a call of p that makes nothing, leaves its caller on its component and sets no Wake and no verdict worse than is looked for
+pub record IsIdle (aim : Verdict) (p q : List Entry) (e : Entry) : Type 0 where
+  pub made : created e.op e.reply ≡ None
+  pub plain : is_wake e.op ≡ false
+  pub no_wake : wake_if e.op e.reply ≡ None
+  pub free : is_barred aim e.op ≡ false
+  pub stays_on : is_active q e.caller.0 ≡ true → ends (stand p e.caller.0).comp e ≡ false
+
+-- a run that continues after q is not leaving
+placed_by : {aim : Verdict} {scripts : List ScriptView} {p q : List Entry} (e : Entry) → IsFor aim scripts q p → is_active q e.caller.0 ≡ true → IsFollowed scripts q e.caller.0 (after_own e (stand p e.caller.0)) (stand q e.caller.0) →
+    IsPlaced aim scripts p q e
+placed_by {aim} {scripts} {p} {q} e f act fol = record {
+  own = λ c n k. let other : (e.caller.0 == n.run.0) ≡ false = not_ending_run f.ahead e.caller.0 act c n in absurd cc;
+  follows = λ on. subst (λ s. IsFollowed scripts q e.caller.0 s (stand q e.caller.0)) (sym (stand_own p e e.caller.0 refl)) fol;
+}
 
 module _ {aim : Verdict} {scripts : List ScriptView} {Seen : List Entry → Type 0} {found : List Witness} {p q : List Entry} {e : Entry} where
   legal_next : AtTurn aim scripts Seen found p q e → IsLegal (length scripts) (e ∷ p)
@@ -165,8 +167,15 @@ module _ {aim : Verdict} {scripts : List ScriptView} {Seen : List Entry → Type
       let on : is_over (e ∷ p) ≡ false = rw (none, h.going) refl in
       record { over = λ o. absurd cc; going = λ o. (q, h.closed, f) }
 
-  told_stutter : AtTurn aim scripts Seen found p q e → ChangesNothing p e → IsFor aim scripts q (e ∷ p) → IsTold aim scripts Seen found (e ∷ p)
-  told_stutter h u f = told_stay h (or_parts (ends_case e) _ (u.no_halt 0)).0 f
+  told_stutter : AtTurn aim scripts Seen found p q e → ChangesNothing p e → level_of (overall (e ∷ p)) ≤ level_of (overall q) → IsPlaced aim scripts p q e → IsTold aim scripts Seen found (e ∷ p)
+  told_stutter h u better placed = told_stay h (or_parts (ends_case e) _ (u.no_halt 0)).0 (stutter scripts p q e h.course h.closed.course h.for u better placed.own placed.follows)
+
+  -- a call of p that halts only a component that is killed after q
+  told_halt : AtTurn aim scripts Seen found p q e → (c : ℕ) → HaltsOne p e c → phase q c ≡ Phase.Killed → exists p c ≡ true →
+      ((d : ℕ) (n : IsEnding aim scripts p q d) → (c == d) ≡ false → (e.caller.0 == n.run.0) ≡ true → IsLeaving aim scripts q n.run.0 (stand (e ∷ p) n.run.0)) →
+      (is_active q e.caller.0 ≡ true → IsFollowed scripts q e.caller.0 (stand (e ∷ p) e.caller.0) (stand q e.caller.0)) → IsTold aim scripts Seen found (e ∷ p)
+  told_halt h c one dead there own follows =
+      told_stay h one.no_case (stay scripts p q e h.course h.closed.course h.for (ahead_late scripts p q e c h.course.1 (legal_next h) h.for.ahead one dead own there) one.made one.no_run follows)
 
   -- a turn of q that p has too
   told_both : AtTurn aim scripts Seen found p q e → (d : Entry) → IsTurn scripts q d → d.caller.0 < length scripts → goes_on d.reply ≡ true →
@@ -188,8 +197,8 @@ module _ {aim : Verdict} {scripts : List ScriptView} {Seen : List Entry → Type
       IsTold aim scripts Seen found (e ∷ p)
   told_fault h d turn callers within x y re rd =
       let lq : IsLegal (length scripts) (d ∷ q) = course_legal scripts (d ∷ q) (turn, h.closed.course) in
-      let vp : overall (e ∷ p) ≡ Verdict.Error = overall_next (length scripts) p e (legal_next h) ∙ (rw re refl ∙ error_is_worst (overall p)) in
-      let vq : overall (d ∷ q) ≡ Verdict.Error = overall_next (length scripts) q d lq ∙ (rw rd refl ∙ error_is_worst (overall q)) in
+      let vp : overall (e ∷ p) ≡ Verdict.Error = overall_more (length scripts) p e (legal_next h) ∙ (rw re refl ∙ error_is_worst (overall p)) in
+      let vq : overall (d ∷ q) ≡ Verdict.Error = overall_more (length scripts) q d lq ∙ (rw rd refl ∙ error_is_worst (overall q)) in
       let lp : level_of (overall (e ∷ p)) ≡ level_of Verdict.Error = ap level_of vp in
       let ld : level_of (overall (d ∷ q)) ≡ level_of Verdict.Error = ap level_of vq in
       let within_p : level_of (overall (e ∷ p)) ≤ level_of aim = h.within in
@@ -199,85 +208,72 @@ module _ {aim : Verdict} {scripts : List ScriptView} {Seen : List Entry → Type
       told_both h d turn (rw callers within) (rw rd refl) (omega (arith, lp, ld)) (omega (arith, lp, ld, within_p)) (ends_e ∙ sym ends_d) (λ o. absurd cc)
 
   -- a Wait of p that is parked
-  told_parked : (me : Comp) → AtTurn aim scripts Seen found p q e → IsGoing scripts p q e me → (stand p e.caller.0).wake ≡ None → (k : Bool) (t : Target) → e.op ≡ Op.Wait k t → e.reply ≡ Reply.Parked →
-      call_at scripts e.caller.0 (stand q e.caller.0) (stand q e.caller.0).comp (stand p e.caller.0).called ≡ e.op → IsTold aim scripts Seen found (e ∷ p)
-  told_parked me h g none k t is r calls =
+  told_waits : AtTurn aim scripts Seen found p q e → (k : Bool) (t : Target) → e.op ≡ Op.Wait k t → e.reply ≡ Reply.Parked → (ChangesNothing p e → IsPlaced aim scripts p q e) → IsTold aim scripts Seen found (e ∷ p)
+  told_waits h k t is r placed =
       let of : IsWakeOf e.op (Op.Wake k t) = record { killed = k; target = t; waits = is; wakes = refl } in
       let u = unchanged_wait p e (Op.Wake k t) of (rw r refl) in
-      told_stutter h u (stutter scripts p q e h.course h.closed.course h.for u (still_better h (wait_kept (length scripts) p e (Op.Wake k t) (legal_next h) of (rw r refl))) (no_leaving e h.for g.in_q) (λ act.
-      subst (λ s. IsFollowed scripts q e.caller.0 s (stand q e.caller.0)) (sym (stand_own p e e.caller.0 refl))
+      told_stutter h u (still_better h (wait_kept (length scripts) p e (Op.Wake k t) (legal_next h) of (rw r refl))) (placed u)
+
+  told_parked : (me : Comp) → AtTurn aim scripts Seen found p q e → IsGoing scripts p q e me → (stand p e.caller.0).wake ≡ None → (k : Bool) (t : Target) → e.op ≡ Op.Wait k t → e.reply ≡ Reply.Parked →
+      call_at scripts e.caller.0 (stand q e.caller.0) (stand q e.caller.0).comp (stand p e.caller.0).called ≡ e.op → IsTold aim scripts Seen found (e ∷ p)
+  told_parked me h g none k t is r calls = told_waits h k t is r (λ u. placed_by e h.for g.in_q
       (parked scripts q e.caller.0 (stand p e.caller.0) (stand q e.caller.0) e (Op.Wake k t) g.followed none u.made
-      (not_ending p e (stand p e.caller.0).comp me u g.stand_p g.on_p (rw r refl)) (rw is refl) (rw (is, r) refl) (record { killed = k; target = t; waits = calls ∙ is; wakes = refl }))))
+      (not_ending p e (stand p e.caller.0).comp me u g.stand_p g.on_p (rw r refl)) (rw is refl) (rw (is, r) refl) (record { killed = k; target = t; waits = calls ∙ is; wakes = refl })))
 
   -- p makes a call that is no error after q
   no_fault_back : AtTurn aim scripts Seen found p q e → fault (length scripts) q e.caller.0 e.op ≡ None → fault (length scripts) p e.caller.0 e.op ≡ None
   no_fault_back h none =
       none_too (fault (length scripts) q e.caller.0 e.op) (fault (length scripts) p e.caller.0 e.op) (sym (fault_ahead h.for.ahead (length scripts) e.caller.0 e.op)) none
 
-  -- a quiet call of p that q has made
-  told_behind_quiet : (me : Comp) → AtTurn aim scripts Seen found p q e → IsGoing scripts p q e me → (stand p e.caller.0).wake ≡ None → (stand p e.caller.0).called < (stand q e.caller.0).called →
-      fault (length scripts) q e.caller.0 e.op ≡ None → is_quiet (overall q) e.op ≡ true → IsTold aim scripts Seen found (e ∷ p)
-  told_behind_quiet me h g none less no_fault_q quiet =
-      let no_fault = no_fault_back h no_fault_q in
-      let is : e.reply ≡ plain_answer p e.caller.0 e.op = h.course.0.reply ∙ answer_plain (length scripts) p e.caller.0 e.op g.in_p no_fault in
-      let plain : is_fault e.reply ≡ false = ap is_fault is ∙ (quiet_reply (overall q) p e.caller.0 e.op me g.on_p quiet).1 in
-      let goes : is_ended e.reply ≡ false = ap is_ended is ∙ plain_not_ended p e.caller.0 e.op me g.on_p in
-      let u = unchanged_quiet (overall q) p e quiet plain in
-      told_stutter h u (stutter scripts p q e h.course h.closed.course h.for u (quiet_within (overall q) (length scripts) p e (legal_next h) quiet plain h.for.ahead.no_better) (no_leaving e h.for g.in_q) (λ act.
-      subst (λ s. IsFollowed scripts q e.caller.0 s (stand q e.caller.0)) (sym (stand_own p e e.caller.0 refl))
-      (behind scripts q e.caller.0 (stand p e.caller.0) (stand q e.caller.0) e g.followed none less u.made
-      (not_ending p e (stand p e.caller.0).comp me u g.stand_p g.on_p goes) (quiet_no_wake (overall q) e.op quiet) (quiet_sets_no_wake (overall q) e.op e.reply quiet))))
-
-  -- a component that is killed after q is there after p
-  there_too : AtTurn aim scripts Seen found p q e → (c : ℕ) → IsGone q c → exists p c ≡ true
-  there_too h c gone = exists_back h.for.ahead c gone.there
-
-  -- a stop or kill of p that q has made, of what was killed then
-  told_behind_late : (me : Comp) → AtTurn aim scripts Seen found p q e → IsGoing scripts p q e me → (stand p e.caller.0).wake ≡ None → (stand p e.caller.0).called < (stand q e.caller.0).called →
-      fault (length scripts) q e.caller.0 e.op ≡ None → is_late q e.op ≡ true → IsTold aim scripts Seen found (e ∷ p)
-  told_behind_late me h g none less no_fault_q late =
-      let is : e.reply ≡ plain_answer p e.caller.0 e.op = h.course.0.reply ∙ answer_plain (length scripts) p e.caller.0 e.op g.in_p (no_fault_back h no_fault_q) in
-      let l = late_for q e.op late in
-      let one = late_halts q p e late (is ∙ late_reply q p e.caller.0 e.op late) in
-      let other = other_than_gone q e.caller.0 l.0.0 me g.in_q g.on_q l.1.gone.dead in
-      let lp = course_legal scripts (e ∷ p) h.course in
-      let ahead = ahead_late scripts p q e l.0.0 h.course.1 lp h.for.ahead one l.1.gone.dead (no_leaving e h.for g.in_q) (there_too h l.0.0 l.1.gone) in
-      told_stay h one.no_case (stay scripts p q e h.course h.closed.course h.for ahead one.made one.no_run (λ act.
-      subst (λ s. IsFollowed scripts q e.caller.0 s (stand q e.caller.0)) (sym (stand_own p e e.caller.0 refl))
-      (behind scripts q e.caller.0 (stand p e.caller.0) (stand q e.caller.0) e g.followed none less one.made
-      (halt_not_ending one (stand p e.caller.0).comp me g.stand_p other) one.plain one.no_wake)))
-
-  -- a wait of p that q has made, for what was killed then
-  told_behind_met : (me : Comp) → AtTurn aim scripts Seen found p q e → IsGoing scripts p q e me → (stand p e.caller.0).wake ≡ None → (stand p e.caller.0).called < (stand q e.caller.0).called →
-      call_at scripts e.caller.0 (stand q e.caller.0) (stand q e.caller.0).comp (stand p e.caller.0).called ≡ e.op → fault (length scripts) q e.caller.0 e.op ≡ None → is_met q e.op ≡ true → IsTold aim scripts Seen found (e ∷ p)
-  told_behind_met me h g none less call_q no_fault_q met = by_reply (met_or_parked q p e.caller.0 e.op met)
+  -- a call of p that changes nothing after q, or a Wait that is parked
+  told_spent : (me : Comp) → AtTurn aim scripts Seen found p q e → is_active p e.caller.0 ≡ true → comp_of p e.caller.0 ≡ Some me → (stand p e.caller.0).comp ≡ Some me → IsQuietAt (length scripts) q e.caller.0 e.op →
+      (IsIdle aim p q e → IsPlaced aim scripts p q e) → ((k : Bool) (t : Target) → e.op ≡ Op.Wait k t → e.reply ≡ Reply.Parked → IsTold aim scripts Seen found (e ∷ p)) → IsTold aim scripts Seen found (e ∷ p)
+  told_spent me h act on here spent placed parks = by_kind (how_spent q e.op spent.quiet)
     where
-      m : IsMetFor q e.op
-      m = met_for q e.op met
-
       is : e.reply ≡ plain_answer p e.caller.0 e.op
-      is = h.course.0.reply ∙ answer_plain (length scripts) p e.caller.0 e.op g.in_p (no_fault_back h no_fault_q)
+      is = h.course.0.reply ∙ answer_plain (length scripts) p e.caller.0 e.op act (no_fault_back h spent.no_fault)
 
-      by_reply : (plain_answer p e.caller.0 e.op ≡ Reply.Matched) ⊎ (plain_answer p e.caller.0 e.op ≡ Reply.Parked) → IsTold aim scripts Seen found (e ∷ p)
-      by_reply (inr r) = told_parked me h g none m.for_kill (Target.One m.comp) m.waits (is ∙ r) call_q
-      by_reply (inl r) =
-          let of : IsWakeOf e.op (Op.Wake m.for_kill (Target.One m.comp)) = record { killed = m.for_kill; target = Target.One m.comp; waits = m.waits; wakes = refl } in
+      by_kind : Spent q e.op → IsTold aim scripts Seen found (e ∷ p)
+      by_kind (inl quiet) =
+          let plain : is_fault e.reply ≡ false = ap is_fault is ∙ (quiet_reply (overall q) p e.caller.0 e.op me on quiet).1 in
+          let u = unchanged_quiet (overall q) p e quiet plain in
+          told_stutter h u (quiet_within (overall q) (length scripts) p e (legal_next h) quiet plain h.for.ahead.no_better) (placed (record {
+            made = u.made;
+            plain = quiet_no_wake (overall q) e.op quiet;
+            no_wake = quiet_sets_no_wake (overall q) e.op e.reply quiet;
+            free = quiet_free (overall q) aim e.op h.closed.within quiet;
+            stays_on = λ go. not_ending p e (stand p e.caller.0).comp me u here on (ap is_ended is ∙ plain_not_ended p e.caller.0 e.op me on);
+          }))
+      by_kind (inr (inl late)) =
+          let l = late_for q e.op late in
+          let one = late_halts q p e late (is ∙ late_reply q p e.caller.0 e.op late) in
+          let at : IsPlaced aim scripts p q e = placed (record {
+            made = one.made;
+            plain = one.plain;
+            no_wake = one.no_wake;
+            free = late_free aim q e.op late;
+            stays_on = λ go. halt_not_ending one (stand p e.caller.0).comp me here on (other_than_gone q e.caller.0 l.0.0 me go (sym (h.for.ahead.comp_same e.caller.0) ∙ on) l.1.gone.dead);
+          }) in
+          told_halt h l.0.0 one l.1.gone.dead (exists_back h.for.ahead l.0.0 l.1.gone.there) (λ d n other. at.own d n) at.follows
+      by_kind (inr (inr met)) =
+          let m = met_for q e.op met in
+          ⊎_elim (λ (r : plain_answer p e.caller.0 e.op ≡ Reply.Matched).
           let matched : e.reply ≡ Reply.Matched = is ∙ r in
-          let u = unchanged_wait p e (Op.Wake m.for_kill (Target.One m.comp)) of (rw matched refl) in
-          told_stutter h u (stutter scripts p q e h.course h.closed.course h.for u (still_better h (wait_kept (length scripts) p e (Op.Wake m.for_kill (Target.One m.comp)) (legal_next h) of (rw matched refl))) (no_leaving e h.for g.in_q) (λ act.
-          subst (λ s. IsFollowed scripts q e.caller.0 s (stand q e.caller.0)) (sym (stand_own p e e.caller.0 refl))
-          (behind scripts q e.caller.0 (stand p e.caller.0) (stand q e.caller.0) e g.followed none less u.made
-          (not_ending p e (stand p e.caller.0).comp me u g.stand_p g.on_p (rw matched refl)) (rw m.waits refl) (rw matched refl))))
+          let u = unchanged_wait p e m.wake m.wake_of (rw matched refl) in
+          told_stutter h u (still_better h (wait_kept (length scripts) p e m.wake (legal_next h) m.wake_of (rw matched refl))) (placed (record {
+            made = u.made;
+            plain = rw m.waits refl;
+            no_wake = rw matched refl;
+            free = ap (is_barred aim) m.waits;
+            stays_on = λ go. not_ending p e (stand p e.caller.0).comp me u here on (rw matched refl);
+          }))) (λ (r : plain_answer p e.caller.0 e.op ≡ Reply.Parked). parks m.for_kill (Target.One m.comp) m.waits (is ∙ r)) (met_or_parked q p e.caller.0 e.op met)
 
   -- a call of p that q has made, and that changes nothing after q
   told_behind : (me : Comp) → AtTurn aim scripts Seen found p q e → IsGoing scripts p q e me → (stand p e.caller.0).wake ≡ None → (stand p e.caller.0).called < (stand q e.caller.0).called →
       call_at scripts e.caller.0 (stand q e.caller.0) (stand q e.caller.0).comp (stand p e.caller.0).called ≡ e.op → IsQuietAt (length scripts) q e.caller.0 e.op → IsTold aim scripts Seen found (e ∷ p)
-  told_behind me h g none less call_q spent = by_kind (how_spent q e.op spent.quiet)
-    where
-      by_kind : Spent q e.op → IsTold aim scripts Seen found (e ∷ p)
-      by_kind (inl quiet) = told_behind_quiet me h g none less spent.no_fault quiet
-      by_kind (inr (inl late)) = told_behind_late me h g none less spent.no_fault late
-      by_kind (inr (inr met)) = told_behind_met me h g none less call_q spent.no_fault met
+  told_behind me h g none less call_q spent = told_spent me h g.in_p g.on_p g.stand_p spent
+      (λ i. placed_by e h.for g.in_q (behind scripts q e.caller.0 (stand p e.caller.0) (stand q e.caller.0) e g.followed none less i.made (i.stays_on g.in_q) i.plain i.no_wake))
+      (λ k t waits r. told_parked me h g none k t waits r call_q)
 
   told_on : (me : Comp) → AtTurn aim scripts Seen found p q e → IsGoing scripts p q e me → (stand p e.caller.0).called ≡ (stand q e.caller.0).called → is_wake e.op ≡ false →
       IsTurn scripts q e → goes_on e.reply ≡ true → IsTold aim scripts Seen found (e ∷ p)
@@ -287,7 +283,7 @@ module _ {aim : Verdict} {scripts : List ScriptView} {Seen : List Entry → Type
       let lq = course_legal scripts (e ∷ q) cq in
       let keeps = keeps_quiet (length scripts) q e lq in
       let ahead = ahead_step scripts p q e h.course.1 lp lq h.for.ahead g.in_q keeps in
-      let inside : level_of (overall (e ∷ q)) ≤ level_of aim = rw (overall_next (length scripts) q e lq) (next_within (gives e.op e.reply) (overall p) (overall q) (level_of aim) (rw (← overall_next (length scripts) p e lp) h.within) h.closed.within) in
+      let inside : level_of (overall (e ∷ q)) ≤ level_of aim = rw (overall_more (length scripts) q e lq) (next_within (gives e.op e.reply) (overall p) (overall q) (level_of aim) (rw (← overall_more (length scripts) p e lp) h.within) h.closed.within) in
       told_both h e turn g.in_range on ahead.no_better inside refl (λ o.
       both scripts p q e e h.course cq h.for refl ahead keeps
       (λ act.
@@ -374,39 +370,29 @@ module _ {aim : Verdict} {scripts : List ScriptView} {Seen : List Entry → Type
           let turn : IsTurn scripts q d = record {
             turn = turn_in scripts p q e me g ∙ ap Some calls;
             reply = sym (answer_plain (length scripts) q e.caller.0 e.op g.in_q k);
-            not_idle = idle_never e.op (plain_answer q e.caller.0 e.op) wk;
+            not_idle = other_not_idle e.op (plain_answer q e.caller.0 e.op) wk;
           } in
           let no : is_spent q e.op ≡ false = (h.closed.each d g.in_range turn r.0).loud r.1 in
           absurd cc
 
   -- a step, if no Wake is to come
-  told_place : (me : Comp) → AtTurn aim scripts Seen found p q e → IsGoing scripts p q e me → (stand p e.caller.0).wake ≡ None →
-      call_of me (stand p e.caller.0).bound (slice_get (steps_of scripts e.caller.0) (stand p e.caller.0).called) ≡ e.op → IsTold aim scripts Seen found (e ∷ p)
-  told_place me h g none calls = by_less (nat_lt (stand p e.caller.0).called (stand q e.caller.0).called) refl
+  told_place : (me : Comp) → AtTurn aim scripts Seen found p q e → IsGoing scripts p q e me → (stand p e.caller.0).wake ≡ None → IsTold aim scripts Seen found (e ∷ p)
+  told_place me h g none =
+      ⊎_elim (λ less. told_behind me h g none less call_q (subst (λ op. IsQuietAt (length scripts) q e.caller.0 op) call_q (before.between (stand p e.caller.0).called (omega arith) less)))
+      (λ far. let fewer = before.fewer in by_quiet (omega (arith, fewer, far)) (is_spent q e.op) refl) (cases_lt (stand p e.caller.0).called (stand q e.caller.0).called)
     where
       before : IsBefore scripts q e.caller.0 (stand p e.caller.0) (stand q e.caller.0)
       before = subst (λ o. MatchOption o (IsBefore scripts q e.caller.0 (stand p e.caller.0) (stand q e.caller.0)) (λ wake. IsParkedAt scripts q e.caller.0 (stand p e.caller.0) (stand q e.caller.0) wake)) none g.followed.place
 
       call_q : call_at scripts e.caller.0 (stand q e.caller.0) (stand q e.caller.0).comp (stand p e.caller.0).called ≡ e.op
-      call_q =
-          ap (λ o. call_at scripts e.caller.0 (stand q e.caller.0) o (stand p e.caller.0).called) g.stand_q
-          ∙ (ap (λ bound. call_of me bound (slice_get (steps_of scripts e.caller.0) (stand p e.caller.0).called)) (sym g.followed.bound) ∙ calls)
+      call_q = sym (calls_as scripts q e.caller.0 (stand p e.caller.0) (stand q e.caller.0) g.followed (stand p e.caller.0).called) ∙ next_of scripts p e.caller.0 e.op none h.course.0.turn
 
       wk : is_wake e.op ≡ false
-      wk = ap is_wake (sym calls) ∙ never_wake me (stand p e.caller.0).bound (slice_get (steps_of scripts e.caller.0) (stand p e.caller.0).called)
+      wk = next_plain scripts p e.caller.0 e.op none h.course.0.turn
 
       by_quiet : (stand p e.caller.0).called ≡ (stand q e.caller.0).called → (t : Bool) → is_spent q e.op ≡ t → IsTold aim scripts Seen found (e ∷ p)
       by_quiet same true k = told_quiet me h g (ap (λ m. call_at scripts e.caller.0 (stand q e.caller.0) (stand q e.caller.0).comp m) (sym same) ∙ call_q) wk k
       by_quiet same false k = told_loud me h g none same (ap (λ m. call_at scripts e.caller.0 (stand q e.caller.0) (stand q e.caller.0).comp m) (sym same) ∙ call_q) wk k
-
-      by_less : (t : Bool) → nat_lt (stand p e.caller.0).called (stand q e.caller.0).called ≡ t → IsTold aim scripts Seen found (e ∷ p)
-      by_less true k =
-          let less : (stand p e.caller.0).called < (stand q e.caller.0).called = grind (arith, nat_tests) in
-          told_behind me h g none less call_q (subst (λ op. IsQuietAt (length scripts) q e.caller.0 op) call_q (before.between (stand p e.caller.0).called (omega arith) less))
-      by_less false k =
-          let fewer = before.fewer in
-          let same : (stand p e.caller.0).called ≡ (stand q e.caller.0).called = grind (arith, nat_tests) in
-          by_quiet same (is_spent q e.op) refl
 
 -- ---- a stuck case
 
@@ -420,11 +406,7 @@ still_run past b _ r s = absurd cc
 
 all_still : (past : List Entry) (c : ℕ) → is_stuck past ≡ true → exists past c ≡ true → is_still past (phase past c) ≡ true
 unfolding is_stuck exists
-all_still past c stuck there = by_test (is_still past (phase past c)) refl
-  where
-    by_test : (t : Bool) → is_still past (phase past c) ≡ t → t ≡ true
-    by_test true k = refl
-    by_test false k = let no = one_false (λ x. is_still past (phase past x)) (comps past) c there k in absurd cc
+all_still past c stuck there = true_from_ne_false (is_still past (phase past c)) (λ k. let no = one_false (λ x. is_still past (phase past x)) (comps past) c there k in cc)
 
 -- in a stuck case each run that continues waits in vain
 stuck_waits : (n : ℕ) (past : List Entry) (b : ℕ) → IsLegal n past → is_stuck past ≡ true → is_active past b ≡ true → (a : Awaited) × (waiting past b ≡ Some a) × (holds past a ≡ false)
@@ -446,11 +428,7 @@ wait_answer n past b k t r act unmet is on = by_fault (fault n past b (Op.Wait k
         absurd cc
 
 active_if_on : (n : ℕ) (past : List Entry) (b : ℕ) (op : Op) (r : Reply) → r ≡ answer n past b op → goes_on r ≡ true → is_active past b ≡ true
-active_if_on n past b op r is on = by_test (is_active past b) refl
-  where
-    by_test : (t : Bool) → is_active past b ≡ t → t ≡ true
-    by_test true k = refl
-    by_test false k = let off : goes_on r ≡ false = ap goes_on (is ∙ answer_inactive n past b op k) in absurd cc
+active_if_on n past b op r is on = true_from_ne_false (is_active past b) (λ k. let off : goes_on r ≡ false = ap goes_on (is ∙ answer_inactive n past b op k) in cc)
 
 same_awaited : (k : Bool) (t : Target) (wake : Op) (a : Awaited) → wake ≡ Op.Wake k t → awaited wake ≡ Some a → record { killed = k; target = t } ≡ a
 same_awaited k t wake a w h = let e : awaited (Op.Wake k t) ≡ Some a = ap awaited (sym w) ∙ h in let e2 : Some (record { killed = k; target = t }) ≡ Some a = e in cc
@@ -512,18 +490,14 @@ module _ {aim : Verdict} {scripts : List ScriptView} {p q : List Entry} where
   stuck_alike : IsCourse scripts p → IsFor aim scripts q p → AreOrdered scripts p q → is_stuck p ≡ true → IsAlike p q
   stuck_alike cp f o stuck = record {
     comps_same = f.ahead.comps_same;
-    phase_same = λ c. by_phase c (f.ahead.phases c);
+    phase_same = λ c. ⊎_elim (λ h. h) (λ (n : IsEnding aim scripts p q c). absurd (none_ending cp f o stuck (suc (o.rank c)) c n (omega arith))) (f.ahead.phases c);
     kind_same = f.ahead.kind_same;
     comp_same = f.ahead.comp_same;
   }
-    where
-      by_phase : (c : ℕ) → (phase p c ≡ phase q c) ⊎ IsEnding aim scripts p q c → phase p c ≡ phase q c
-      by_phase c (inl h) = h
-      by_phase c (inr n) = absurd (none_ending cp f o stuck (suc (o.rank c)) c n (omega arith))
 
   -- and none can continue in q
   none_goes_on : IsCourse scripts p → IsFor aim scripts q p → IsAlike p q → is_stuck p ≡ true → GoesOn scripts q → ⊥
-  none_goes_on cp f alike stuck go = by_less (nat_lt at.place (stand q d.caller.0).called) refl
+  none_goes_on cp f alike stuck go = ⊎_elim waited_before (λ far. let fewer = at.fewer in waits_here (omega (arith, fewer, far))) (cases_lt at.place (stand q d.caller.0).called)
     where
       d : Entry
       d = go.entry
@@ -546,10 +520,7 @@ module _ {aim : Verdict} {scripts : List ScriptView} {p q : List Entry} where
       waits_here : at.place ≡ (stand q d.caller.0).called → ⊥
       waits_here same =
           let of = at.wake_of in
-          let t = has_turn scripts q d.caller.0 d.op go.turn.turn in
-          let call : call_at scripts d.caller.0 (stand q d.caller.0) (stand q d.caller.0).comp (stand q d.caller.0).called ≡ d.op =
-          ap (λ o. call_at scripts d.caller.0 (stand q d.caller.0) o (stand q d.caller.0).called) t.on
-          ∙ (ap (λ o. unwrap_or o (call_of t.me (stand q d.caller.0).bound (slice_get (steps_of scripts d.caller.0) (stand q d.caller.0).called))) (sym fol.no_wake) ∙ t.calls) in
+          let call = next_of scripts q d.caller.0 d.op fol.no_wake go.turn.turn in
           let op_is : d.op ≡ Op.Wait of.killed of.target = sym call ∙ (ap (call_at scripts d.caller.0 (stand q d.caller.0) (stand q d.caller.0).comp) (sym same) ∙ of.waits) in
           let a_is : record { killed = of.killed; target = of.target } ≡ w.0 = same_awaited of.killed of.target by.wake w.0 of.wakes by.for_it in
           let no : holds q (record { killed = of.killed; target = of.target }) ≡ false = sym (holds_alike alike (record { killed = of.killed; target = of.target })) ∙ (ap (holds p) a_is ∙ w.2) in
@@ -566,10 +537,6 @@ module _ {aim : Verdict} {scripts : List ScriptView} {p q : List Entry} where
           let yes : holds p w.0 ≡ true = ap (holds p) (sym a_is) ∙ (holds_alike alike (record { killed = met.for_kill; target = Target.One met.comp }) ∙ there) in
           both_ways (holds p w.0) w.2 yes
 
-      by_less : (t : Bool) → nat_lt at.place (stand q d.caller.0).called ≡ t → ⊥
-      by_less true k = waited_before (grind (arith, nat_tests))
-      by_less false k = let fewer = at.fewer in waits_here (grind (arith, nat_tests))
-
 finish_reply : (n : ℕ) (past : List Entry) (b : ℕ) → is_active past b ≡ true → answer n past b Op.Finish ≡ Reply.Ok
 unfolding answer fault all_exist
 finish_reply n past b act = rw act refl
@@ -585,7 +552,7 @@ fault_of_wait n past b k t = refl
 module _ {aim : Verdict} {scripts : List ScriptView} {Seen : List Entry → Type 0} {found : List Witness} {p q : List Entry} {e : Entry} where
   told_stuck : AtTurn aim scripts Seen found p q e → is_stuck p ≡ true → e.reply ≡ Reply.Fault Fault.Stuck → IsTold aim scripts Seen found (e ∷ p)
   told_stuck h stuck r =
-      let v : overall (e ∷ p) ≡ Verdict.Error = overall_next (length scripts) p e (course_legal scripts (e ∷ p) h.course) ∙ (rw r refl ∙ error_is_worst (overall p)) in
+      let v : overall (e ∷ p) ≡ Verdict.Error = overall_more (length scripts) p e (course_legal scripts (e ∷ p) h.course) ∙ (rw r refl ∙ error_is_worst (overall p)) in
       let ends : ends_case e ≡ true = rw r refl in
       let over_e : is_over (e ∷ p) ≡ true = rw ends refl in
       let worst : level_of (overall (e ∷ p)) ≡ level_of Verdict.Error = ap level_of v in
@@ -693,45 +660,42 @@ module _ {aim : Verdict} {scripts : List ScriptView} {Seen : List Entry → Type
       none_too (fault (length scripts) q e.caller.0 (Op.Wait k t)) (fault (length scripts) p e.caller.0 (Op.Wake k t)) (sym (wake_fault h k t)) none in
       h.course.0.reply ∙ (ap (answer (length scripts) p e.caller.0) op_is ∙ answer_plain (length scripts) p e.caller.0 (Op.Wake k t) act none_p)
 
+  -- a Wake of a Wait that changes nothing after q
+  told_awoken : AtTurn aim scripts Seen found p q e → (k : Bool) (t : Target) → is_active p e.caller.0 ≡ true → e.op ≡ Op.Wake k t → IsQuietAt (length scripts) q e.caller.0 (Op.Wait k t) →
+      (ChangesNothing p e → e.reply ≡ Reply.Matched → IsPlaced aim scripts p q e) → IsTold aim scripts Seen found (e ∷ p)
+  told_awoken h k t act op_is quiet placed = by_holds (holds p (record { killed = k; target = t })) refl
+    where
+      reply : e.reply ≡ wake_reply p e.caller.0 (record { killed = k; target = t })
+      reply = wake_answer h k t act op_is quiet.no_fault
+
+      by_holds : (s : Bool) → holds p (record { killed = k; target = t }) ≡ s → IsTold aim scripts Seen found (e ∷ p)
+      by_holds false j = told_unmet h k t op_is reply j
+      by_holds true j =
+          let r : e.reply ≡ Reply.Matched = reply ∙ rw j refl in
+          let of : IsWakeOf (Op.Wait k t) e.op = record { killed = k; target = t; waits = refl; wakes = op_is } in
+          let u = unchanged_wake p e (Op.Wait k t) of (rw r refl) in
+          told_stutter h u (still_better h (wake_kept (length scripts) p e (Op.Wait k t) (legal_next h) of (rw r refl))) (placed u r)
+
   -- a Wake of a Wait that q has made
   told_wake_behind : (me : Comp) → AtTurn aim scripts Seen found p q e → IsGoing scripts p q e me → (wake : Op) → wake ≡ e.op → (at : IsParkedAt scripts q e.caller.0 (stand p e.caller.0) (stand q e.caller.0) wake) →
       at.place < (stand q e.caller.0).called → IsTold aim scripts Seen found (e ∷ p)
-  told_wake_behind me h g wake calls at less = by_holds (holds p (record { killed = at.wake_of.killed; target = at.wake_of.target })) refl
-    where
-      op_is : e.op ≡ Op.Wake at.wake_of.killed at.wake_of.target
-      op_is = sym calls ∙ at.wake_of.wakes
-
-      quiet : IsQuietAt (length scripts) q e.caller.0 (Op.Wait at.wake_of.killed at.wake_of.target)
-      quiet = subst (λ op. IsQuietAt (length scripts) q e.caller.0 op) at.wake_of.waits (at.between at.place (omega arith) less)
-
-      reply : e.reply ≡ wake_reply p e.caller.0 (record { killed = at.wake_of.killed; target = at.wake_of.target })
-      reply = wake_answer h at.wake_of.killed at.wake_of.target g.in_p op_is quiet.no_fault
-
-      by_holds : (s : Bool) → holds p (record { killed = at.wake_of.killed; target = at.wake_of.target }) ≡ s → IsTold aim scripts Seen found (e ∷ p)
-      by_holds false k = told_unmet h at.wake_of.killed at.wake_of.target op_is reply k
-      by_holds true k =
-          let r : e.reply ≡ Reply.Matched = reply ∙ rw k refl in
-          let of : IsWakeOf (Op.Wait at.wake_of.killed at.wake_of.target) e.op = record { killed = at.wake_of.killed; target = at.wake_of.target; waits = refl; wakes = op_is } in
-          let u = unchanged_wake p e (Op.Wait at.wake_of.killed at.wake_of.target) of (rw r refl) in
-          told_stutter h u (stutter scripts p q e h.course h.closed.course h.for u (still_better h (wake_kept (length scripts) p e (Op.Wait at.wake_of.killed at.wake_of.target) (legal_next h) of (rw r refl))) (no_leaving e h.for g.in_q) (λ act.
-          subst (λ s. IsFollowed scripts q e.caller.0 s (stand q e.caller.0)) (sym (stand_own p e e.caller.0 refl))
-          (woken_behind scripts q e.caller.0 (stand p e.caller.0) (stand q e.caller.0) e wake g.followed at less u.made
-          (not_ending p e (stand p e.caller.0).comp me u g.stand_p g.on_p (rw r refl)) (rw op_is refl) (loud_sets_no_wake e.op e.reply (rw r refl)))))
+  told_wake_behind me h g wake calls at less =
+      let op_is : e.op ≡ Op.Wake at.wake_of.killed at.wake_of.target = sym calls ∙ at.wake_of.wakes in
+      told_awoken h at.wake_of.killed at.wake_of.target g.in_p op_is (subst (λ op. IsQuietAt (length scripts) q e.caller.0 op) at.wake_of.waits (at.between at.place (omega arith) less)) (λ u r. placed_by e h.for g.in_q
+      (woken_behind scripts q e.caller.0 (stand p e.caller.0) (stand q e.caller.0) e wake g.followed at less u.made
+      (not_ending p e (stand p e.caller.0).comp me u g.stand_p g.on_p (rw r refl)) (rw op_is refl) (loud_sets_no_wake e.op e.reply (rw r refl))))
 
   -- a Wake
   told_wake : (me : Comp) → AtTurn aim scripts Seen found p q e → IsGoing scripts p q e me → (wake : Op) → (stand p e.caller.0).wake ≡ Some wake → wake ≡ e.op → IsTold aim scripts Seen found (e ∷ p)
-  told_wake me h g wake some calls = by_less (nat_lt at.place (stand q e.caller.0).called) refl
+  told_wake me h g wake some calls =
+      ⊎_elim (told_wake_behind me h g wake calls at) (λ far.
+      let fewer = at.fewer in
+      let same : at.place ≡ (stand q e.caller.0).called = omega (arith, fewer, far) in
+      told_wake_here me h g at.wake_of.killed at.wake_of.target (sym calls ∙ at.wake_of.wakes)
+      (ap (call_at scripts e.caller.0 (stand q e.caller.0) (stand q e.caller.0).comp) (sym same) ∙ at.wake_of.waits) (at.one_more ∙ ap suc same)) (cases_lt at.place (stand q e.caller.0).called)
     where
       at : IsParkedAt scripts q e.caller.0 (stand p e.caller.0) (stand q e.caller.0) wake
       at = subst (λ o. MatchOption o (IsBefore scripts q e.caller.0 (stand p e.caller.0) (stand q e.caller.0)) (λ w. IsParkedAt scripts q e.caller.0 (stand p e.caller.0) (stand q e.caller.0) w)) some g.followed.place
-
-      by_less : (t : Bool) → nat_lt at.place (stand q e.caller.0).called ≡ t → IsTold aim scripts Seen found (e ∷ p)
-      by_less true k = told_wake_behind me h g wake calls at (grind (arith, nat_tests))
-      by_less false k =
-          let fewer = at.fewer in
-          let same : at.place ≡ (stand q e.caller.0).called = grind (arith, nat_tests) in
-          told_wake_here me h g at.wake_of.killed at.wake_of.target (sym calls ∙ at.wake_of.wakes)
-          (ap (call_at scripts e.caller.0 (stand q e.caller.0) (stand q e.caller.0).comp) (sym same) ∙ at.wake_of.waits) (at.one_more ∙ ap suc same)
 
   -- a turn of a run that is leaving, and has ended after q
   told_leaving : AtTurn aim scripts Seen found p q e → (c : ℕ) (n : IsEnding aim scripts p q c) → n.run.0 ≡ e.caller.0 → IsTold aim scripts Seen found (e ∷ p)
@@ -749,123 +713,65 @@ module _ {aim : Verdict} {scripts : List ScriptView} {Seen : List Entry → Type
       on : comp_of p e.caller.0 ≡ Some (record { 0 = c })
       on = subst (λ b. comp_of p b ≡ Some (record { 0 = c })) own n.on
 
-      t : HasTurn (steps_of scripts e.caller.0) (stand p e.caller.0) e.op
-      t = has_turn scripts p e.caller.0 e.op h.course.0.turn
+      here : (stand p e.caller.0).comp ≡ Some (record { 0 = c })
+      here = stand_comp scripts p e.caller.0 h.course.1 ∙ on
 
       call : (stand p e.caller.0).wake ≡ None → call_at scripts e.caller.0 (stand p e.caller.0) (stand p e.caller.0).comp (stand p e.caller.0).called ≡ e.op
-      call none =
-          ap (λ o. call_at scripts e.caller.0 (stand p e.caller.0) o (stand p e.caller.0).called) t.on
-          ∙ (ap (λ o. unwrap_or o (call_of t.me (stand p e.caller.0).bound (slice_get (steps_of scripts e.caller.0) (stand p e.caller.0).called))) (sym none) ∙ t.calls)
+      call none = next_of scripts p e.caller.0 e.op none h.course.0.turn
 
-      answered : fault (length scripts) q e.caller.0 e.op ≡ None → e.reply ≡ plain_answer p e.caller.0 e.op
-      answered none = h.course.0.reply ∙ answer_plain (length scripts) p e.caller.0 e.op active (no_fault_back h none)
-
-      goes_not : (act : is_active q e.caller.0 ≡ true) → IsFollowed scripts q e.caller.0 (stand (e ∷ p) e.caller.0) (stand q e.caller.0)
+      goes_not : is_active q e.caller.0 ≡ true → IsFollowed scripts q e.caller.0 (stand (e ∷ p) e.caller.0) (stand q e.caller.0)
       goes_not act = absurd (both_ways (is_active q e.caller.0) off act)
 
-      leaving_still : IsLeaving aim scripts q e.caller.0 (after_own e (stand p e.caller.0)) →
-          (d : ℕ) (m : IsEnding aim scripts p q d) → (e.caller.0 == m.run.0) ≡ true → IsLeaving aim scripts q m.run.0 (stand (e ∷ p) m.run.0)
-      leaving_still l d m k =
-          let later : IsLeaving aim scripts q e.caller.0 (stand (e ∷ p) e.caller.0) = subst (λ s. IsLeaving aim scripts q e.caller.0 s) (sym (stand_own p e e.caller.0 refl)) l in
-          subst (λ b. IsLeaving aim scripts q b (stand (e ∷ p) b)) (equal_if e.caller.0 m.run.0 k) later
+      placed : IsLeaving aim scripts q e.caller.0 (after_own e (stand p e.caller.0)) → IsPlaced aim scripts p q e
+      placed l = record {
+        own = λ d m k.
+            let later : IsLeaving aim scripts q e.caller.0 (stand (e ∷ p) e.caller.0) = subst (λ s. IsLeaving aim scripts q e.caller.0 s) (sym (stand_own p e e.caller.0 refl)) l in
+            subst (λ b. IsLeaving aim scripts q b (stand (e ∷ p) b)) (equal_if e.caller.0 m.run.0 k) later;
+        follows = goes_not;
+      }
 
-      own_leaving : (stand p e.caller.0).wake ≡ None → is_barred aim e.op ≡ false → created e.op e.reply ≡ None → is_wake e.op ≡ false → wake_if e.op e.reply ≡ None →
-          (d : ℕ) (m : IsEnding aim scripts p q d) → (e.caller.0 == m.run.0) ≡ true → IsLeaving aim scripts q m.run.0 (stand (e ∷ p) m.run.0)
-      own_leaving none free made plain no_wake = leaving_still (leaving_on scripts q e.caller.0 (stand p e.caller.0) e leaving made plain no_wake (ap (is_barred aim) (call none) ∙ free))
-
-      quiet_turn : (stand p e.caller.0).wake ≡ None → fault (length scripts) q e.caller.0 e.op ≡ None → is_quiet (overall q) e.op ≡ true → IsTold aim scripts Seen found (e ∷ p)
-      quiet_turn no_wake none quiet =
-          let plain : is_fault e.reply ≡ false = ap is_fault (answered none) ∙ (quiet_reply (overall q) p e.caller.0 e.op (record { 0 = c }) on quiet).1 in
-          let u = unchanged_quiet (overall q) p e quiet plain in
-          told_stutter h u (stutter scripts p q e h.course h.closed.course h.for u (quiet_within (overall q) (length scripts) p e (legal_next h) quiet plain h.for.ahead.no_better)
-          (own_leaving no_wake (quiet_free (overall q) aim e.op h.closed.within quiet) u.made (quiet_no_wake (overall q) e.op quiet) (quiet_sets_no_wake (overall q) e.op e.reply quiet)) goes_not)
-
-      late_turn : (stand p e.caller.0).wake ≡ None → fault (length scripts) q e.caller.0 e.op ≡ None → is_late q e.op ≡ true → IsTold aim scripts Seen found (e ∷ p)
-      late_turn no_wake none late =
-          let l = late_for q e.op late in
-          let one = late_halts q p e late (answered none ∙ late_reply q p e.caller.0 e.op late) in
-          let lp = course_legal scripts (e ∷ p) h.course in
-          let ahead = ahead_late scripts p q e l.0.0 h.course.1 lp h.for.ahead one l.1.gone.dead (own_leaving no_wake (late_free aim q e.op late) one.made one.plain one.no_wake) (there_too h l.0.0 l.1.gone) in
-          told_stay h one.no_case (stay scripts p q e h.course h.closed.course h.for ahead one.made one.no_run goes_not)
-
-      met_turn : (stand p e.caller.0).wake ≡ None → IsQuietAt (length scripts) q e.caller.0 e.op → is_met q e.op ≡ true → IsTold aim scripts Seen found (e ∷ p)
-      met_turn none quiet met = by_reply (met_or_parked q p e.caller.0 e.op met)
-        where
-          m : IsMetFor q e.op
-          m = met_for q e.op met
-
-          of : IsWakeOf e.op (Op.Wake m.for_kill (Target.One m.comp))
-          of = record { killed = m.for_kill; target = Target.One m.comp; waits = m.waits; wakes = refl }
-
-          by_reply : (plain_answer p e.caller.0 e.op ≡ Reply.Matched) ⊎ (plain_answer p e.caller.0 e.op ≡ Reply.Parked) → IsTold aim scripts Seen found (e ∷ p)
-          by_reply (inl r) =
-              let matched : e.reply ≡ Reply.Matched = answered quiet.no_fault ∙ r in
-              let u = unchanged_wait p e (Op.Wake m.for_kill (Target.One m.comp)) of (rw matched refl) in
-              told_stutter h u (stutter scripts p q e h.course h.closed.course h.for u (still_better h (wait_kept (length scripts) p e (Op.Wake m.for_kill (Target.One m.comp)) (legal_next h) of (rw matched refl))) (own_leaving none (ap (is_barred aim) m.waits) u.made (rw m.waits refl) (rw matched refl)) goes_not)
-          by_reply (inr r) =
-              let waits : e.reply ≡ Reply.Parked = answered quiet.no_fault ∙ r in
-              let u = unchanged_wait p e (Op.Wake m.for_kill (Target.One m.comp)) of (rw waits refl) in
-              told_stutter h u (stutter scripts p q e h.course h.closed.course h.for u (still_better h (wait_kept (length scripts) p e (Op.Wake m.for_kill (Target.One m.comp)) (legal_next h) of (rw waits refl)))
-              (leaving_still (leaving_parked scripts q e.caller.0 (stand p e.caller.0) e (Op.Wake m.for_kill (Target.One m.comp)) leaving u.made (rw m.waits refl) (wait_parks e.op e.reply m.for_kill (Target.One m.comp) m.waits waits)
-              (subst (λ op. IsWakeOf op (Op.Wake m.for_kill (Target.One m.comp))) (sym (call none)) of) (subst (λ op. IsQuietAt (length scripts) q e.caller.0 op) (sym (call none)) quiet)))
-              goes_not)
-
-      spent_turn : (stand p e.caller.0).wake ≡ None → IsQuietAt (length scripts) q e.caller.0 e.op → IsTold aim scripts Seen found (e ∷ p)
-      spent_turn none spent = by_kind (how_spent q e.op spent.quiet)
-        where
-          by_kind : Spent q e.op → IsTold aim scripts Seen found (e ∷ p)
-          by_kind (inl quiet) = quiet_turn none spent.no_fault quiet
-          by_kind (inr (inl late)) = late_turn none spent.no_fault late
-          by_kind (inr (inr met)) = met_turn none spent met
+      parked_turn : (stand p e.caller.0).wake ≡ None → IsQuietAt (length scripts) q e.caller.0 e.op → (k : Bool) (t : Target) → e.op ≡ Op.Wait k t → e.reply ≡ Reply.Parked → IsTold aim scripts Seen found (e ∷ p)
+      parked_turn none quiet k t is r =
+          let of : IsWakeOf e.op (Op.Wake k t) = record { killed = k; target = t; waits = is; wakes = refl } in
+          told_waits h k t is r (λ u. placed
+          (leaving_parked scripts q e.caller.0 (stand p e.caller.0) e (Op.Wake k t) leaving u.made (rw is refl) (rw (is, r) refl)
+          (subst (λ op. IsWakeOf op (Op.Wake k t)) (sym (call none)) of) (subst (λ op. IsQuietAt (length scripts) q e.caller.0 op) (sym (call none)) quiet)))
 
       woken_turn : (wake : Op) → (stand p e.caller.0).wake ≡ Some wake → WasParked scripts q e.caller.0 (stand p e.caller.0) wake → IsTold aim scripts Seen found (e ∷ p)
-      woken_turn wake some was = by_holds (holds p (record { killed = was.wake_of.killed; target = was.wake_of.target })) refl
-        where
-          calls : wake ≡ e.op
-          calls = ap (λ o. unwrap_or o (call_of t.me (stand p e.caller.0).bound (slice_get (steps_of scripts e.caller.0) (stand p e.caller.0).called))) (sym some) ∙ t.calls
+      woken_turn wake some was =
+          let op_is : e.op ≡ Op.Wake was.wake_of.killed was.wake_of.target = sym (wake_of_turn scripts p e.caller.0 wake e.op some h.course.0.turn) ∙ was.wake_of.wakes in
+          told_awoken h was.wake_of.killed was.wake_of.target active op_is (subst (λ op. IsQuietAt (length scripts) q e.caller.0 op) was.wake_of.waits was.quiet)
+          (λ u r. placed (leaving_woken scripts q e.caller.0 (stand p e.caller.0) e leaving u.made (rw op_is refl) (loud_sets_no_wake e.op e.reply (rw r refl))))
 
-          op_is : e.op ≡ Op.Wake was.wake_of.killed was.wake_of.target
-          op_is = sym calls ∙ was.wake_of.wakes
-
-          quiet : IsQuietAt (length scripts) q e.caller.0 (Op.Wait was.wake_of.killed was.wake_of.target)
-          quiet = subst (λ op. IsQuietAt (length scripts) q e.caller.0 op) was.wake_of.waits was.quiet
-
-          reply : e.reply ≡ wake_reply p e.caller.0 (record { killed = was.wake_of.killed; target = was.wake_of.target })
-          reply = wake_answer h was.wake_of.killed was.wake_of.target active op_is quiet.no_fault
-
-          by_holds : (s : Bool) → holds p (record { killed = was.wake_of.killed; target = was.wake_of.target }) ≡ s → IsTold aim scripts Seen found (e ∷ p)
-          by_holds false k = told_unmet h was.wake_of.killed was.wake_of.target op_is reply k
-          by_holds true k =
-              let r : e.reply ≡ Reply.Matched = reply ∙ rw k refl in
-              let of : IsWakeOf (Op.Wait was.wake_of.killed was.wake_of.target) e.op = record { killed = was.wake_of.killed; target = was.wake_of.target; waits = refl; wakes = op_is } in
-              let u = unchanged_wake p e (Op.Wait was.wake_of.killed was.wake_of.target) of (rw r refl) in
-              told_stutter h u (stutter scripts p q e h.course h.closed.course h.for u (still_better h (wake_kept (length scripts) p e (Op.Wait was.wake_of.killed was.wake_of.target) (legal_next h) of (rw r refl)))
-              (leaving_still (leaving_woken scripts q e.caller.0 (stand p e.caller.0) e leaving u.made (rw op_is refl) (loud_sets_no_wake e.op e.reply (rw r refl)))) goes_not)
+      -- a run that has the component which ends is the one that ends
+      other_run : (d : ℕ) (m : IsEnding aim scripts p q d) → (c == d) ≡ false → (e.caller.0 == m.run.0) ≡ true → IsLeaving aim scripts q m.run.0 (stand (e ∷ p) m.run.0)
+      other_run d m other k =
+          let same : c ≡ d = number_of (record { 0 = c }) (record { 0 = d }) (sym on ∙ (ap (comp_of p) (equal_if e.caller.0 m.run.0 k) ∙ m.on)) in
+          let yes : (c == d) ≡ true = subst (λ x. (c == x) ≡ true) same (self_equal c) in
+          absurd cc
 
       end_turn : e.op ≡ Op.Finish → IsTold aim scripts Seen found (e ∷ p)
       end_turn op =
-          let reply : e.reply ≡ Reply.Ok = h.course.0.reply ∙ (ap (answer (length scripts) p e.caller.0) op ∙ finish_reply (length scripts) p e.caller.0 active) in
           let ends : Ends p e (record { 0 = c }) = record {
             op = op;
-            reply = reply;
+            reply = h.course.0.reply ∙ (ap (answer (length scripts) p e.caller.0) op ∙ finish_reply (length scripts) p e.caller.0 active);
             not_main = subst (λ b. (b == 0) ≡ false) own n.not_main;
             on = on;
             runs = running_on p e (record { 0 = c }) active on;
             ordinary = n.ordinary;
           } in
-          let none : ends_case e ≡ false = ends_no_case ends in
-          let going : is_over (e ∷ p) ≡ false = rw (none, h.going) refl in
-          record { over = λ o. absurd cc; going = λ o. (q, h.closed, after_end scripts p q e c h.course h.closed.course h.for n own ends) }
+          told_halt h c (end_halts ends) n.ended (on_existing (length scripts) p e.caller.0 (record { 0 = c }) (course_legal scripts p h.course.1) on) other_run goes_not
 
       by_call : (stand p e.caller.0).wake ≡ None → IsLastAt (length scripts) q e.caller.0 e.op → IsTold aim scripts Seen found (e ∷ p)
-      by_call none (inl spent) = spent_turn none spent
+      by_call none (inl spent) = told_spent (record { 0 = c }) h active on here spent
+          (λ i. placed (leaving_on scripts q e.caller.0 (stand p e.caller.0) e leaving i.made i.plain i.no_wake (ap (is_barred aim) (call none) ∙ i.free))) (parked_turn none spent)
       by_call none (inr op) = end_turn op
 
       -- it sets no verdict worse than is looked for
       no_setting : (v : UserVerdict) → e.op ≡ Op.SetVerdict v → level_of aim < level_of (given v) → IsTold aim scripts Seen found (e ∷ p)
       no_setting v sets more =
           let reply : e.reply ≡ Reply.Ok = h.course.0.reply ∙ (ap (answer (length scripts) p e.caller.0) sets ∙ answer_plain (length scripts) p e.caller.0 (Op.SetVerdict v) active (fault_of_set (length scripts) p e.caller.0 v)) in
-          let is : overall (e ∷ p) ≡ worse (overall p) (given v) = overall_next (length scripts) p e (legal_next h) ∙ rw (reply, sets) refl in
+          let is : overall (e ∷ p) ≡ worse (overall p) (given v) = overall_more (length scripts) p e (legal_next h) ∙ rw (reply, sets) refl in
           let level = ap level_of is in
           let right = worse_right (overall p) (given v) in
           let within = h.within in
@@ -910,9 +816,9 @@ module _ {aim : Verdict} {scripts : List ScriptView} {Seen : List Entry → Type
 
       by_wake : (t : HasTurn (steps_of scripts e.caller.0) (stand p e.caller.0) e.op) → IsGoing scripts p q e t.me → (o : Option Op) → (stand p e.caller.0).wake ≡ o → IsTold aim scripts Seen found (e ∷ p)
       by_wake t g None k =
-          told_place t.me h g k (ap (λ o. unwrap_or o (call_of t.me (stand p e.caller.0).bound (slice_get (steps_of scripts e.caller.0) (stand p e.caller.0).called))) (sym k) ∙ t.calls)
+          told_place t.me h g k
       by_wake t g (Some wake) k =
-          told_wake t.me h g wake k (ap (λ o. unwrap_or o (call_of t.me (stand p e.caller.0).bound (slice_get (steps_of scripts e.caller.0) (stand p e.caller.0).called))) (sym k) ∙ t.calls)
+          told_wake t.me h g wake k (wake_of_turn scripts p e.caller.0 wake e.op k h.course.0.turn)
 
       by_active : (t : Bool) → is_active p e.caller.0 ≡ t → IsTold aim scripts Seen found (e ∷ p)
       by_active true k = by_q (active_forth h.for.ahead e.caller.0 k)
@@ -923,7 +829,13 @@ module _ {aim : Verdict} {scripts : List ScriptView} {Seen : List Entry → Type
       by_active false k =
           let r : e.reply ≡ Reply.Ended = h.course.0.reply ∙ answer_inactive (length scripts) p e.caller.0 e.op k in
           let u = unchanged_ended p e r in
-          told_stutter h u (stutter scripts p q e h.course h.closed.course h.for u (still_better h (ended_kept (length scripts) p e (legal_next h) r)) (none_leaving e k) (λ act. let on : is_active p e.caller.0 ≡ true = active_back h.for.ahead e.caller.0 act in absurd cc))
+          told_stutter h u (still_better h (ended_kept (length scripts) p e (legal_next h) r)) (record {
+            own = λ c n same.
+                let one : is_active p e.caller.0 ≡ is_active p n.run.0 = ap (is_active p) (equal_if e.caller.0 n.run.0 same) in
+                let on : is_active p n.run.0 ≡ true = ending_active c n in
+                absurd cc;
+            follows = λ act. let on : is_active p e.caller.0 ≡ true = active_back h.for.ahead e.caller.0 act in absurd cc;
+          })
 
 -- ---- all courses
 

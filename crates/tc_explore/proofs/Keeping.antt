@@ -1,92 +1,67 @@
 -- The states that a search keeps: no such case is over, no run has a Wake to come, and each call that continues changes
 -- something.
-use Rattle.std.proofs.{lemmas.Bool.{and_parts, not-true, or_from, or_parts, Decides.nat_tests}, Common.{ℕ, ◌≡◌, ◌<◌, ◌+◌, ◌==◌, ◌&&◌, ◌||◌, inl, inr, not, nat_lt, Bool, true, false, Option, Some, None, List, [], ◌∷◌, length, reverse, refl, ap, sym, subst, ◌∙◌, arith}}
-use Rattle.tc_rules.{specs.Prelude.{Run, Comp, Entry, Op, Reply, is_ended, is_fault, Case, past_of, comp_of, started_on, first_some, is_comp, is_finish, is_stop_of, is_kill_of, is_stop_case, halts, ends_case, ends_pass, is_over, phase, answer, is_active, is_active_on, is_run_of, IsLegal, Verdict, overall, gives, local, level_of, Target, Phase, entry_made}, proofs.Lemmas.{Deciding.equal_if, Going.halted_by_entry, Sound.plain_if}}
+use Rattle.std.proofs.{lemmas.Bool.{and_parts, not-true, or_from, or_parts, true_from_ne_false}, Common.{ℕ, ◌≡◌, ◌<◌, ◌+◌, ◌==◌, ◌&&◌, ◌||◌, inl, inr, not, Bool, true, false, Option, Some, None, List, [], ◌∷◌, length, reverse, refl, ap, sym, subst, ◌∙◌, arith}}
+use Rattle.tc_rules.{specs.Prelude.{Run, Comp, Entry, Op, Reply, is_ended, is_fault, Case, past_of, comp_of, started_on, first_some, is_comp, is_finish, is_stop_of, is_kill_of, is_stop_case, halts, ends_case, ends_pass, is_over, phase, answer, is_active, is_active_on, is_run_of, IsLegal, Verdict, overall, gives, local, level_of, Phase, entry_made}, proofs.Lemmas.{Deciding.{equal_if, if_same}, Going.halted_by_entry, Sound.plain_if, Decided.overall_more}}
 use Rattle.tc_step.specs.Prelude.{ScriptView}
-use Rattle.tc_course.{specs.{Prelude.{CourseState, stand, goes_on, after_other_by, IsTurn, IsCourse, IsOn}, Inside.ends}, proofs.Lemmas.{below_more, course_legal, has_turn, stand_own, stand_other, stand_comp, stand_unstarted, wake_after_other}}
-use Rattle.tc_explore.{specs.Inside.{Seen.{HasNoWake, IsCalm, IsCalmAfter, IsCalmAt, IsOpen, IsSame, IsState}, Simulation.{IsSilent, IsWithin}}, proofs.{Alike.overall_next, Closing.{answer_inactive, loud_sets_no_wake, not_ended}, Felling.felling_halts, Late.{halt_overall, late_halts, late_reply, met_for}, Leaving.running_on, Places.{Spent, how_spent, kept_left}, Simulation.{quiet_within, unchanged_quiet, unchanged_wait, wait_kept}}}
-
-pub on_not_ended : (r : Reply) → goes_on r ≡ true → is_ended r ≡ false
-on_not_ended Reply.Ended h = absurd cc
-on_not_ended _ h = refl
+use Rattle.tc_course.{specs.{Prelude.{CourseState, stand, goes_on, after_other_by, IsTurn, IsCourse, IsOn}, Inside.ends}, proofs.Lemmas.{below_more, course_legal, has_turn, stand_own, stand_other, stand_comp, stand_unstarted}}
+use Rattle.tc_explore.{specs.Inside.{Seen.{HasNoWake, IsCalm, IsCalmAfter, IsCalmAt, IsOpen, IsState}, Simulation.{IsSilent, IsWithin}}, proofs.{Alike.ChangesNothing, Closing.{answer_inactive, loud_sets_no_wake, not_ended}, Felling.felling_halts, Late.{halt_overall, late_halts, late_reply, met_for, HaltsOne, late_for}, Leaving.running_on, Places.{Spent, how_spent, kept_left, wake_after}, Simulation.{quiet_within, unchanged_quiet, unchanged_wait, wait_kept}, Ahead.on_not_ended}}
 
 -- ---- one more entry
 
 no_wake_next : (past : List Entry) (e : Entry) → goes_on e.reply ≡ true → HasNoWake past → HasNoWake (e ∷ past)
-no_wake_next past e on h b = by_test (e.caller.0 == b) refl
-  where
-    by_test : (t : Bool) → (e.caller.0 == b) ≡ t → (stand (e ∷ past) b).wake ≡ None
-    by_test true k = ap (λ (s : CourseState). s.wake) (stand_own past e b (equal_if e.caller.0 b k)) ∙ loud_sets_no_wake e.op e.reply on
-    by_test false k =
-        let other : stand (e ∷ past) b ≡ after_other_by (stand past b).comp e b (stand past b) = rw k refl in
-        ap (λ (s : CourseState). s.wake) other ∙ (wake_after_other (stand past b).comp (started_on e b) e b (stand past b) refl ∙ h b)
-
--- a call of which nobody can see that it was made ends no case
-silent_no_case : {aim : Verdict} (scripts : List ScriptView) (q : List Entry) (e : Entry) → IsCourse scripts (e ∷ q) → is_fault e.reply ≡ false → is_ended e.reply ≡ false → IsSilent aim scripts q e.caller.0 e.op → ends_case e ≡ false
-silent_no_case {aim} scripts q e cq plain goes (inl spent) = by_kind (how_spent q e.op spent)
-  where
-    by_kind : Spent q e.op → ends_case e ≡ false
-    by_kind (inl quiet) = (or_parts (ends_case e) _ ((unchanged_quiet (overall q) q e quiet plain).no_halt 0)).0
-    by_kind (inr (inl late)) =
-        let is = plain_if (length scripts) q e.caller.0 e.op e.reply goes plain cq.0.reply in
-        (late_halts q q e late (is.is ∙ late_reply q q e.caller.0 e.op late)).no_case
-    by_kind (inr (inr met)) =
-        let m = met_for q e.op met in
-        (or_parts (ends_case e) _ ((unchanged_wait q e (Op.Wake m.for_kill (Target.One m.comp)) (record { killed = m.for_kill; target = Target.One m.comp; waits = m.waits; wakes = refl }) plain).no_halt 0)).0
-silent_no_case {aim} scripts q e cq plain goes (inr (inr (inr felling))) = (felling_halts scripts q e cq plain goes felling).no_case
-silent_no_case {aim} scripts q e cq plain goes (inr (inr (inl quiet))) = (or_parts (ends_case e) _ ((unchanged_quiet aim q e quiet plain).no_halt 0)).0
-silent_no_case {aim} scripts q e cq plain goes (inr (inl end)) = rw (end.finish, end.not_main, plain, goes) refl
+no_wake_next past e on h b = wake_after past e b ∙ rw (loud_sets_no_wake e.op e.reply on, h b) (if_same (e.caller.0 == b) None)
 
 finish_gives : (op : Op) (r : Reply) → op ≡ Op.Finish → is_fault r ≡ false → gives op r ≡ []
 finish_gives op Reply.Ok is plain = rw is refl
 finish_gives op (Reply.Fault x) is plain = absurd cc
 finish_gives op _ is plain = refl
 
--- nor does it make the verdict worse than is looked for
-silent_within : {aim : Verdict} (scripts : List ScriptView) (q : List Entry) (e : Entry) → IsCourse scripts (e ∷ q) → is_fault e.reply ≡ false → is_ended e.reply ≡ false → IsSilent aim scripts q e.caller.0 e.op →
-    IsWithin aim q → IsWithin aim (e ∷ q)
-silent_within {aim} scripts q e cq plain goes (inl spent) within = by_kind (how_spent q e.op spent)
+-- a call of which nobody can see that it was made ends no case, and makes the verdict no worse than is looked for
+silent_keeps : {aim : Verdict} (scripts : List ScriptView) (q : List Entry) (e : Entry) → IsCourse scripts (e ∷ q) → is_fault e.reply ≡ false → is_ended e.reply ≡ false → IsSilent aim scripts q e.caller.0 e.op →
+    (ends_case e ≡ false) × (IsWithin aim q → IsWithin aim (e ∷ q))
+silent_keeps {aim} scripts q e cq plain goes silent = by_call silent
   where
     legal : IsLegal (length scripts) (e ∷ q)
     legal = course_legal scripts (e ∷ q) cq
 
-    by_kind : Spent q e.op → IsWithin aim (e ∷ q)
-    by_kind (inl quiet) = let l = quiet_within (overall q) (length scripts) q e legal quiet plain (omega arith) in omega (arith, l, within)
+    by_halt : (c : ℕ) → HaltsOne q e c → (ends_case e ≡ false) × (IsWithin aim q → IsWithin aim (e ∷ q))
+    by_halt c one = (one.no_case, λ within. let same = ap level_of (halt_overall (length scripts) legal one) in omega (arith, same, within))
+
+    no_case : ChangesNothing q e → ends_case e ≡ false
+    no_case u = (or_parts (ends_case e) _ (u.no_halt 0)).0
+
+    by_kind : Spent q e.op → (ends_case e ≡ false) × (IsWithin aim q → IsWithin aim (e ∷ q))
+    by_kind (inl quiet) = (no_case (unchanged_quiet (overall q) q e quiet plain), λ within. let l = quiet_within (overall q) (length scripts) q e legal quiet plain (omega arith) in omega (arith, l, within))
     by_kind (inr (inl late)) =
         let is = plain_if (length scripts) q e.caller.0 e.op e.reply goes plain cq.0.reply in
-        let same = ap level_of (halt_overall (length scripts) legal (late_halts q q e late (is.is ∙ late_reply q q e.caller.0 e.op late))) in
-        omega (arith, same, within)
+        by_halt (late_for q e.op late).0.0 (late_halts q q e late (is.is ∙ late_reply q q e.caller.0 e.op late))
     by_kind (inr (inr met)) =
         let m = met_for q e.op met in
-        let same = ap level_of (wait_kept (length scripts) q e (Op.Wake m.for_kill (Target.One m.comp)) legal (record { killed = m.for_kill; target = Target.One m.comp; waits = m.waits; wakes = refl }) plain) in
-        omega (arith, same, within)
-silent_within {aim} scripts q e cq plain goes (inr (inl end)) within =
-    let gift : gives e.op e.reply ≡ [] = finish_gives e.op e.reply end.finish plain in
-    let same : overall (e ∷ q) ≡ overall q = overall_next (length scripts) q e (course_legal scripts (e ∷ q) cq) ∙ rw gift refl in
-    let level = ap level_of same in
-    omega (arith, level, within)
-silent_within {aim} scripts q e cq plain goes (inr (inr (inr felling))) within =
-    let same = ap level_of (halt_overall (length scripts) (course_legal scripts (e ∷ q) cq) (felling_halts scripts q e cq plain goes felling)) in omega (arith, same, within)
-silent_within {aim} scripts q e cq plain goes (inr (inr (inl quiet))) within = quiet_within aim (length scripts) q e (course_legal scripts (e ∷ q) cq) quiet plain within
+        (no_case (unchanged_wait q e m.wake m.wake_of plain), λ within. let same = ap level_of (wait_kept (length scripts) q e m.wake legal m.wake_of plain) in omega (arith, same, within))
+
+    by_call : IsSilent aim scripts q e.caller.0 e.op → (ends_case e ≡ false) × (IsWithin aim q → IsWithin aim (e ∷ q))
+    by_call (inl spent) = by_kind (how_spent q e.op spent)
+    by_call (inr (inr (inr felling))) = by_halt felling.comp.0 (felling_halts scripts q e cq plain goes felling)
+    by_call (inr (inr (inl quiet))) = (no_case (unchanged_quiet aim q e quiet plain), quiet_within aim (length scripts) q e legal quiet plain)
+    by_call (inr (inl end)) =
+        let gift : gives e.op e.reply ≡ [] = finish_gives e.op e.reply end.finish plain in
+        let same : overall (e ∷ q) ≡ overall q = overall_more (length scripts) q e legal ∙ rw gift refl in
+        let level = ap level_of same in
+        (rw (end.finish, end.not_main, plain, goes) refl, λ within. omega (arith, level, within))
 
 module _ (scripts : List ScriptView) (t u : Case) (run : Run) (op : Op) where
   pub open_silent : {aim : Verdict} → IsOpen scripts t → IsOn scripts u → IsTurn scripts (past_of t) (entry_made t.behaviours (past_of t) run op) → is_fault (answer t.behaviours (past_of t) run.0 op) ≡ false →
-      goes_on (answer t.behaviours (past_of t) run.0 op) ≡ true → IsSilent aim scripts (past_of t) run.0 op → past_of u ≡ entry_made t.behaviours (past_of t) run op ∷ past_of t → IsOpen scripts u
-  open_silent o on turn plain goes silent is =
-      let none : ends_case (entry_made t.behaviours (past_of t) run op) ≡ false =
-      silent_no_case scripts (past_of t) (entry_made t.behaviours (past_of t) run op) (turn, o.on.course) plain (on_not_ended (answer t.behaviours (past_of t) run.0 op) goes) silent in
-      record {
-        on = on;
-        going = ap is_over is ∙ rw (none, o.going) refl;
-        no_wake = λ b. ap (λ x. (stand x b).wake) is ∙ no_wake_next (past_of t) (entry_made t.behaviours (past_of t) run op) goes o.no_wake b;
-      }
-
-  -- the verdict is no worse then than is looked for
-  pub within_silent : {aim : Verdict} → IsOpen scripts t → IsTurn scripts (past_of t) (entry_made t.behaviours (past_of t) run op) → is_fault (answer t.behaviours (past_of t) run.0 op) ≡ false →
-      goes_on (answer t.behaviours (past_of t) run.0 op) ≡ true → IsSilent aim scripts (past_of t) run.0 op → past_of u ≡ entry_made t.behaviours (past_of t) run op ∷ past_of t → IsWithin aim (past_of t) → IsWithin aim (past_of u)
-  within_silent {aim} o turn plain goes silent is within =
-      subst (IsWithin aim) (sym is)
-      (silent_within scripts (past_of t) (entry_made t.behaviours (past_of t) run op) (turn, o.on.course) plain (on_not_ended (answer t.behaviours (past_of t) run.0 op) goes) silent within)
+      goes_on (answer t.behaviours (past_of t) run.0 op) ≡ true → IsSilent aim scripts (past_of t) run.0 op → past_of u ≡ entry_made t.behaviours (past_of t) run op ∷ past_of t → IsOpen scripts u × (IsWithin aim (past_of t) → IsWithin aim (past_of u))
+  open_silent {aim} o on turn plain goes silent is =
+      let keeps = silent_keeps scripts (past_of t) (entry_made t.behaviours (past_of t) run op) (turn, o.on.course) plain (on_not_ended (answer t.behaviours (past_of t) run.0 op) goes) silent in
+      let none : ends_case (entry_made t.behaviours (past_of t) run op) ≡ false = keeps.0 in (
+        record {
+          on = on;
+          going = ap is_over is ∙ rw (none, o.going) refl;
+          no_wake = λ b. ap (λ x. (stand x b).wake) is ∙ no_wake_next (past_of t) (entry_made t.behaviours (past_of t) run op) goes o.no_wake b;
+        },
+        λ within. subst (IsWithin aim) (sym is) (keeps.1 within),
+      )
 
   -- a call that continues, after which the case is not over
   pub open_next : IsOpen scripts t → IsOn scripts u → goes_on (answer t.behaviours (past_of t) run.0 op) ≡ true → past_of u ≡ entry_made t.behaviours (past_of t) run op ∷ past_of t → is_over (past_of u) ≡ false →
@@ -136,7 +111,7 @@ within_opening aim t none = rw none (omega arith)
 
 pub ruleset keeping_rules = (on_open, open_state, on_state, open_same, state_same, within_state, within_same, within_opening)
 
-pub ruleset call_rules = (on_open, open_silent, within_silent, on_not_ended)
+pub ruleset call_rules = (on_open)
 
 -- ---- no call is left of which nobody can see that it was made
 
@@ -233,16 +208,11 @@ main_only past e main act here = by_comp (comp_of past e.caller.0) refl here
 halts_by : (r f w n s k m c : Bool) → (r ≡ false → c ≡ true → m ≡ true) → (not r && (f || w || (n && m) || s || k)) ≡ false →
     ((not r && (f || w || (n && m) || s || k)) || (not r && ((n && c) || s || k))) ≡ false
 halts_by true f w n s k m c only h = refl
-halts_by false true w n s k m c only h = absurd cc
-halts_by false false true n s k m c only h = absurd cc
 halts_by false false false true s k true c only h = absurd cc
-halts_by false false false true true k false c only h = absurd cc
-halts_by false false false true false true false c only h = absurd cc
 halts_by false false false true false false false true only h = let no = only refl refl in absurd cc
 halts_by false false false true false false false false only h = refl
-halts_by false false false false true k m c only h = absurd cc
-halts_by false false false false false true m c only h = absurd cc
 halts_by false false false false false false m c only h = refl
+halts_by false _ _ _ _ _ _ _ only h = absurd cc
 
 -- an entry that ends no case does not halt the main component
 no_main_halt : (n : ℕ) (past : List Entry) (e : Entry) → IsLegal n (e ∷ past) → is_active past 0 ≡ true → ends_case e ≡ false → halts (comp_of past e.caller.0) e 0 ≡ false
@@ -250,11 +220,9 @@ no_main_halt n past e legal main none =
     halts_by (is_ended e.reply) (is_fault e.reply) (is_stop_case e.op) (is_finish e.op) (is_stop_of e.op 0) (is_kill_of e.op 0) (e.caller.0 == 0) (is_comp (comp_of past e.caller.0) 0) only none
   where
     only : is_ended e.reply ≡ false → is_comp (comp_of past e.caller.0) 0 ≡ true → (e.caller.0 == 0) ≡ true
-    only goes here = by_active (is_active past e.caller.0) refl
-      where
-        by_active : (t : Bool) → is_active past e.caller.0 ≡ t → (e.caller.0 == 0) ≡ true
-        by_active true k = main_only past e main k here
-        by_active false k = let off : is_ended e.reply ≡ true = ap is_ended (legal.0 ∙ answer_inactive n past e.caller.0 e.op k) in absurd cc
+    only goes here =
+        let act = true_from_ne_false (is_active past e.caller.0) (λ k. let off : is_ended e.reply ≡ true = ap is_ended (legal.0 ∙ answer_inactive n past e.caller.0 e.op k) in cc) in
+        main_only past e main act here
 
 main_begins : is_active [] 0 ≡ true
 unfolding is_active phase

@@ -1,7 +1,7 @@
 -- The states that a search keeps, and how many calls it counts.
-use Rattle.std.{proofs.{Common.{ℕ, ◌≡◌, ◌==◌, ◌<◌, Bool, true, false, List, [], length, get_or, replicate, set, refl, ap, sym, ◌∙◌, arith, zero, suc, ◌+◌, ◌≤◌, inl, inr, max, nat_eq, nat_le, All, Option, Some, None, ◌∷◌, ◌++◌, map, reverse, slice_get, rules, nat_cmp, subst, append-nil}, lemmas.{Bool.Decides.nat_tests, List.{Elements.{All-map, All-nil, All-push, All-same, All-weaker}, get_or-map, get_or-replicate, get_or-set_other, get_or-set_same, length-map, length-replicate, length-set}, Option.get_or_from_slice_get}}, specs.{Cmp.Lexicographic.pointwise, List.IsDistinct, Ordering.ord_max}}
+use Rattle.std.{proofs.{Common.{ℕ, ◌≡◌, ◌==◌, ◌<◌, List, [], length, get_or, replicate, set, refl, ap, sym, ◌∙◌, arith, ◌+◌, ◌≤◌, inl, inr, max, nat_eq, All, ◌∷◌, ◌++◌, map, reverse, rules, nat_cmp, subst, append-nil, ⊎_elim, false}, lemmas.{List.{Elements.{All-map, All-nil, All-push, All-same, All-weaker}, get_or-map, get_or-replicate, get_or-set_other, get_or-set_same, length-map, length-replicate, length-set}, Bool.{cases_eq, cases_lt}, Option.slice_get-get_or}}, specs.{Cmp.Lexicographic.pointwise, List.IsDistinct, Ordering.ord_max}}
 use Rattle.tc_step.specs.Prelude.{ScriptView}
-use Rattle.tc_rules.{specs.Prelude.{Case, past_of, Entry, Verdict}, proofs.Lemmas.Deciding.{equal_if, self_equal}}
+use Rattle.tc_rules.specs.Prelude.{Case, past_of, Entry, Verdict}
 use Rattle.tc_course.specs.{Prelude.{carried_on, IsOn, IsCourse}, declared.witness.Witness.Witness}
 use Rattle.tc_explore.{specs.{Found.{AreAllMet, AreCourses, AreCovered, AreReached, Covers}, Inside.{Seen.{AreKept, IsCountedTo, IsLonger, IsNoLess, IsSameCase, IsState, IsWith, Reaches}, Twins.{AreKeyed, key_of}}, declared.{findings.Findings.Findings, search.Met.Met}}, proofs.{Keeping.state_same, Keys.{AreApart, keys_apart}}}
 
@@ -21,15 +21,11 @@ reaches scripts t b k on is = (past_of t, on.course, sym is)
 -- one number is another
 pub reached_set : (scripts : List ScriptView) (reached : List ℕ) (i k : ℕ) → AreReached scripts reached → i < length reached → Reaches scripts i k
     → AreReached scripts (set reached i k)
-reached_set scripts reached i k are near one = record { as_many = length-set reached i k ∙ are.as_many; each = λ b inside. by_test b inside (b == i) refl }
-  where
-    by_test : (b : ℕ) → b < length (set reached i k) → (t : Bool) → (b == i) ≡ t → Reaches scripts b (get_or (set reached i k) b 0)
-    by_test b inside true h =
-        let same : b ≡ i = equal_if b i h in
-        rw same (rw (get_or-set_same reached i k 0 near) one)
-    by_test b inside false h =
-        let within : b < length reached = omega (arith, inside, length-set reached i k) in
-        rw (get_or-set_other reached i b k 0 (λ same. let is : (b == i) ≡ true = ap (λ n. n == i) same ∙ self_equal i in absurd cc)) (are.each b within)
+reached_set scripts reached i k are near one = record {
+  as_many = length-set reached i k ∙ are.as_many;
+  each = λ b inside.
+      ⊎_elim (λ (same : b ≡ i). rw same (rw (get_or-set_same reached i k 0 near) one)) (λ other. rw (get_or-set_other reached i b k 0 other) (are.each b (omega (arith, inside, length-set reached i k)))) (cases_eq b i);
+}
 
 pub ruleset reaching_rules = (reached_none, reaches, reached_set)
 
@@ -58,50 +54,27 @@ pub counted_none : (scripts : List ScriptView) (reached : List ℕ) (past : List
 counted_none scripts reached past are = record { reached = are; more = no_less_self reached; covers = λ b near. absurd (omega arith) }
 
 -- the greater of two numbers is one of them
-reaches_max : (scripts : List ScriptView) (b m n : ℕ) → Reaches scripts b m → Reaches scripts b n → Reaches scripts b (max m n)
-reaches_max scripts b m n one other = by_test (nat_le m n) refl
-  where
-    by_test : (t : Bool) → nat_le m n ≡ t → Reaches scripts b (max m n)
-    by_test true h = let is : n ≡ max m n = grind (arith, nat_tests) in subst (Reaches scripts b) is other
-    by_test false h = let is : m ≡ max m n = grind (arith, nat_tests) in subst (Reaches scripts b) is one
+max_by : (P : ℕ → Type 0) (m n : ℕ) → P m → P n → P (max m n)
+max_by P m n one other =
+    ⊎_elim (λ (less : m < n). let is : n ≡ max m n = omega (arith, less) in subst P is other) (λ (more : n ≤ m). let is : m ≡ max m n = omega (arith, more) in subst P is one) (cases_lt m n)
 
 -- one run more
 pub counted_more : (scripts : List ScriptView) (before reached : List ℕ) (t : Case) (n k : ℕ) → IsOn scripts t → n < length reached → k ≡ carried_on (past_of t) n →
     IsCountedTo scripts before reached (past_of t) n → IsCountedTo scripts before (set reached n (max (get_or reached n 0) k)) (past_of t) (n + 1)
 counted_more scripts before reached t n k on near is c = record {
-  reached = reached_set scripts reached n (max (get_or reached n 0) k) c.reached near (reaches_max scripts n (get_or reached n 0) k (c.reached.each n near) (reaches scripts t n k on is));
+  reached = reached_set scripts reached n (max (get_or reached n 0) k) c.reached near (max_by (Reaches scripts n) (get_or reached n 0) k (c.reached.each n near) (reaches scripts t n k on is));
   more = record {
     as_many = length-set reached n (max (get_or reached n 0) k) ∙ c.more.as_many;
-    each = λ b inside. by_more b inside (b == n) refl;
+    each = λ b inside.
+        ⊎_elim (λ (same : b ≡ n). omega (arith, c.more.each b inside, here b same, ap (λ m. get_or reached m 0) same)) (λ other. rw (get_or-set_other reached n b (max (get_or reached n 0) k) 0 other) (c.more.each b inside)) (cases_eq b n);
   };
-  covers = λ b below. by_covers b below (b == n) refl;
+  covers = λ b below.
+      ⊎_elim (λ (same : b ≡ n). omega (arith, ap (carried_on (past_of t)) same ∙ sym is, here b same))
+      (λ other. rw (get_or-set_other reached n b (max (get_or reached n 0) k) 0 other) (c.covers b (omega (arith, below, other)))) (cases_eq b n);
 }
   where
-    after : List ℕ
-    after = set reached n (max (get_or reached n 0) k)
-
     here : (b : ℕ) → b ≡ n → get_or (set reached n (max (get_or reached n 0) k)) b 0 ≡ max (get_or reached n 0) k
     here b same = ap (λ m. get_or (set reached n (max (get_or reached n 0) k)) m 0) same ∙ get_or-set_same reached n (max (get_or reached n 0) k) 0 near
-
-    there : (b : ℕ) → (b == n) ≡ false → get_or (set reached n (max (get_or reached n 0) k)) b 0 ≡ get_or reached b 0
-    there b h = get_or-set_other reached n b (max (get_or reached n 0) k) 0 (λ same. let yes : (b == n) ≡ true = ap (λ m. m == n) same ∙ self_equal n in absurd cc)
-
-    by_more : (b : ℕ) → b < length before → (s : Bool) → (b == n) ≡ s → get_or before b 0 ≤ get_or (set reached n (max (get_or reached n 0) k)) b 0
-    by_more b inside true h =
-        let same : b ≡ n = equal_if b n h in
-        let was : get_or before b 0 ≤ get_or reached b 0 = c.more.each b inside in
-        let at : get_or reached b 0 ≡ get_or reached n 0 = ap (λ m. get_or reached m 0) same in
-        omega (arith, was, at, here b same)
-    by_more b inside false h = omega (arith, c.more.each b inside, there b h)
-
-    by_covers : (b : ℕ) → b < n + 1 → (s : Bool) → (b == n) ≡ s → carried_on (past_of t) b ≤ get_or (set reached n (max (get_or reached n 0) k)) b 0
-    by_covers b below true h =
-        let same : b ≡ n = equal_if b n h in
-        let own : carried_on (past_of t) b ≡ k = ap (carried_on (past_of t)) same ∙ sym is in
-        omega (arith, own, here b same)
-    by_covers b below false h =
-        let other : b < n = grind (arith, nat_tests) in
-        omega (arith, c.covers b other, there b h)
 
 -- each run
 pub counted_all : (scripts : List ScriptView) (before reached : List ℕ) (past : List Entry) (n : ℕ) → length scripts ≤ n → IsCountedTo scripts before reached past n → Covers reached past
@@ -125,7 +98,7 @@ keyed_none of met none no_key = rw (none, no_key) refl
 pub as_many_keys : (of : List Entry → List ℕ) (met : Met) → AreKeyed of met → length met.keys.keys ≡ length met.states.items
 as_many_keys of met keyed = sym (length-map met.keys.keys (λ k. k.items)) ∙ (ap length keyed ∙ length-map met.states.items (λ t. of (past_of t)))
 
-pub kept_none : {aim : Verdict} (scripts : List ScriptView) (met : Met) (found : Findings) → met.states.items ≡ [] → AreKeyed (key_of (length scripts)) met → AreKept aim scripts met found
+pub kept_none : {aim : Verdict} (scripts : List ScriptView) (met : Met) (found : Findings) → met.states.items ≡ [] → AreKeyed (key_of false (length scripts)) met → AreKept aim scripts met found
 kept_none {aim} scripts met found none keyed = record {
   few = let size : length met.states.items ≡ 0 = ap length none in omega (arith, size);
   each = All-same (λ t. IsState aim scripts t) met.states.items [] none (All-nil (λ t. IsState aim scripts t));
@@ -148,7 +121,7 @@ all_with P before after t keeps (inr more) all one = All-same P after (before ++
 
 -- one state more, that is counted
 pub kept_with : {aim : Verdict} (scripts : List ScriptView) (met after : Met) (f g : Findings) (t : Case) → AreKept aim scripts met f → IsNoLess f.reached.items g.reached.items → IsState aim scripts t → Covers g.reached.items (past_of t) →
-    IsWith met.states.items t after.states.items → AreKeyed (key_of (length scripts)) after → after.limit ≡ met.limit → length after.states.items ≤ met.limit → AreKept aim scripts after g
+    IsWith met.states.items t after.states.items → AreKeyed (key_of false (length scripts)) after → after.limit ≡ met.limit → length after.states.items ≤ met.limit → AreKept aim scripts after g
 kept_with {aim} scripts met after f g t kept more state covers with keyed limit within =
     let now = kept_more scripts met f g more kept in
     record {
@@ -165,24 +138,13 @@ pub ruleset kept_rules = (with_one, kept_none, kept_more, kept_states, longer_wi
 
 -- ---- what is told
 
-none_within : (xs : List Case) (i : ℕ) → i < length xs → slice_get xs i ≡ None → ⊥
-none_within [] i near h = omega (arith, near)
-none_within (x ∷ xs) zero near h = absurd cc
-none_within (x ∷ xs) (suc i) near h = none_within xs i (omega (arith, near)) h
-
 once_of : (states : List Case) → AreApart states → (i j : ℕ) (d : List Entry) → i < length (map past_of states) → j < length (map past_of states) → get_or (map past_of states) i d ≡ get_or (map past_of states) j d → i ≡ j
-once_of states apart i j d near_i near_j same = by_states (slice_get states i) refl (slice_get states j) refl
-  where
-    within : (k : ℕ) → k < length (map past_of states) → k < length states
-    within k near = omega (arith, near, length-map states past_of)
-
-    course_at : (k : ℕ) (s : Case) → k < length (map past_of states) → slice_get states k ≡ Some s → get_or (map past_of states) k d ≡ past_of s
-    course_at k s near h = get_or-map past_of states k s d (within k near) ∙ ap past_of (get_or_from_slice_get states k s s h)
-
-    by_states : (o : Option Case) → slice_get states i ≡ o → (p : Option Case) → slice_get states j ≡ p → i ≡ j
-    by_states (Some s) h (Some t) k = apart i j s t h k (sym (course_at i s near_i h) ∙ (same ∙ course_at j t near_j k))
-    by_states None h p k = absurd (none_within states i (within i near_i) h)
-    by_states (Some s) h None k = absurd (none_within states j (within j near_j) k)
+once_of states apart i j d near_i near_j same =
+    let t : Case = record { behaviours = 0; history = []; room = 0 } in
+    let in_i : i < length states = omega (arith, near_i, length-map states past_of) in
+    let in_j : j < length states = omega (arith, near_j, length-map states past_of) in
+    apart i j (get_or states i t) (get_or states j t) (slice_get-get_or states i t in_i) (slice_get-get_or states j t in_j)
+    (sym (get_or-map past_of states i t d in_i) ∙ (same ∙ get_or-map past_of states j t d in_j))
 
 pub no_courses : (scripts : List ScriptView) → AreCourses scripts 0 []
 no_courses scripts = record { as_many = refl; each = All-nil (IsCourse scripts); once = λ i j d near_i near_j same. absurd (omega arith) }
@@ -214,23 +176,12 @@ most_of m n k is = search rules
 
 -- the greater of two such numbers is one of them
 pub met_max : (scripts : List ScriptView) (before after : List ℕ) (m n k : ℕ) → k ≡ max m n → IsNoLess before after → AreAllMet scripts before m → AreAllMet scripts after n → AreAllMet scripts after k
-met_max scripts before after m n k most more one other = by_test (nat_le m n) refl
-  where
-    by_test : (t : Bool) → nat_le m n ≡ t → AreAllMet scripts after k
-    by_test true h = let is : n ≡ max m n = grind (arith, nat_tests) in subst (AreAllMet scripts after) (is ∙ sym most) other
-    by_test false h = let is : m ≡ max m n = grind (arith, nat_tests) in subst (AreAllMet scripts after) (is ∙ sym most) (met_more scripts before after m more one)
-
--- it is at most what both are, and that where the second is
-pub most_within : (m n k limit : ℕ) → k ≡ max m n → m ≤ limit → n ≤ limit → k ≤ limit
-most_within m n k limit most one other = omega arith
-
-pub most_full : (m n k limit : ℕ) → k ≡ max m n → m ≤ limit → n ≡ limit → k ≡ limit
-most_full m n k limit most one other = omega arith
+met_max scripts before after m n k most more one other = subst (AreAllMet scripts after) (sym most) (max_by (AreAllMet scripts after) m n (met_more scripts before after m more one) other)
 
 pub met_of : {aim : Verdict} (scripts : List ScriptView) (met : Met) (found : Findings) → AreKept aim scripts met found → IsDistinct (λ x y. pointwise nat_eq x.items y.items) met.keys.keys → AreAllMet scripts found.reached.items (length met.keys.keys)
 met_of {aim} scripts met found kept distinct = record {
   courses = map past_of met.states.items;
-  are = courses_of scripts (key_of (length scripts)) met kept.keyed distinct
+  are = courses_of scripts (key_of false (length scripts)) met kept.keyed distinct
       (All-weaker (λ t. IsState aim scripts t) (λ t. IsCourse scripts (past_of t)) (λ t s. s.opened.on.course) met.states.items kept.each);
   counted = All-map (Covers found.reached.items) past_of met.states.items kept.counted;
 }

@@ -1,9 +1,9 @@
 -- The last calls of a case that is over: they are replied Ended, and after them no run has a call left.
-use Rattle.std.proofs.{lemmas.Bool.{or_right, Decides.nat_tests}, Common.{ℕ, ◌≡◌, ◌<◌, ◌≤◌, ◌+◌, ◌==◌, ◌||◌, inl, inr, nat_lt, Bool, true, false, Option, Some, None, List, [], ◌∷◌, length, refl, ap, sym, subst, ◌∙◌, arith}}
-use Rattle.tc_rules.{specs.Prelude.{Run, Comp, Entry, Op, Case, past_of, comp_of, is_comp, started_on, ends_case, ends_pass, is_over, IsLegal, local, local_if_any, overall, gives, answer, Reply, entry_made}, proofs.Lemmas.{Deciding.{equal_if, if_same}, Over.all_over}}
+use Rattle.std.proofs.{lemmas.Bool.or_right, Common.{ℕ, ◌≡◌, ◌<◌, ◌≤◌, ◌+◌, ◌==◌, ◌||◌, inl, inr, Bool, true, false, Some, None, List, [], ◌∷◌, length, refl, ap, sym, subst, ◌∙◌, arith}}
+use Rattle.tc_rules.{specs.Prelude.{Run, Comp, Entry, Op, Case, past_of, comp_of, is_comp, ends_case, ends_pass, is_over, IsLegal, local, local_if_any, overall, gives, answer, Reply, entry_made}, proofs.Lemmas.{Deciding.{equal_if, if_same}, Over.all_over, Decided.overall_more}}
 use Rattle.tc_step.specs.Prelude.{ScriptView}
-use Rattle.tc_course.{specs.Prelude.{CourseState, stand, after_own, after_other_by, turn, turn_on, steps_of, is_idle, IsTurn, IsCourse, IsComplete, IsOn, CannotGo}, proofs.Lemmas.{course_legal, has_turn, stand_own}}
-use Rattle.tc_explore.{specs.Inside.Seen.{IsStepped, HasSameLocals}, proofs.{Alike.{alike_unchanged, exists_same, local_next, overall_next}, Simulation.unchanged_ended}}
+use Rattle.tc_course.{specs.Prelude.{CourseState, stand, after_own, turn, turn_on, steps_of, is_idle, IsTurn, IsCourse, IsComplete, IsOn, CannotGo}, proofs.Lemmas.{course_legal, has_turn, stand_own, below_more}}
+use Rattle.tc_explore.{specs.Inside.Seen.{IsStepped, HasSameLocals}, proofs.{Alike.{alike_unchanged, exists_same, local_next, none_unless}, Simulation.unchanged_ended, Places.stand_still}}
 
 -- ---- local verdicts
 
@@ -46,23 +46,12 @@ own_done scripts q e mine r =
     turn_left scripts (e ∷ q) e.caller.0 t.me (ap (λ (s : CourseState). s.comp) own ∙ t.on) (ap (λ (s : CourseState). s.left) own ∙ left)
 
 other_done : (scripts : List ScriptView) (q : List Entry) (e : Entry) (b : ℕ) → (e.caller.0 == b) ≡ false → e.reply ≡ Reply.Ended → turn scripts (e ∷ q) b ≡ turn scripts q b
-other_done scripts q e b other r = turn_by scripts (e ∷ q) q b (rw other (by_comp (stand q b).comp))
-  where
-    none : started_on e b ≡ None
-    none = rw r refl
-
-    by_comp : (o : Option Comp) → after_other_by o e b (stand q b) ≡ stand q b
-    by_comp (Some c) = refl
-    by_comp None = rw none refl
+other_done scripts q e b other r = turn_by scripts (e ∷ q) q b (stand_still q e b other (rw r refl))
 
 no_turn : (scripts : List ScriptView) (past : List Entry) (b : ℕ) → ((op : Op) → answer (length scripts) past b op ≡ Reply.Ended) → CannotGo scripts past b → turn scripts past b ≡ None
-no_turn scripts past b ended cannot = by_turn (turn scripts past b) refl
-  where
-    by_turn : (o : Option Op) → turn scripts past b ≡ o → o ≡ None
-    by_turn None k = refl
-    by_turn (Some op) k =
-        let not_idle : is_idle op (answer (length scripts) past b op) ≡ false = rw (ended op) refl in
-        absurd (cannot (record { caller = record { 0 = b }; op = op; reply = answer (length scripts) past b op }) refl (record { turn = k; reply = refl; not_idle = not_idle }))
+no_turn scripts past b ended cannot = none_unless (turn scripts past b) (λ op k.
+    let not_idle : is_idle op (answer (length scripts) past b op) ≡ false = rw (ended op) refl in
+    cannot (record { caller = record { 0 = b }; op = op; reply = answer (length scripts) past b op }) refl (record { turn = k; reply = refl; not_idle = not_idle }))
 
 -- the case is over still, with the verdict that it had, and neither run b nor who had no call left has one
 pub record IsOverAfter (scripts : List ScriptView) (p q : List Entry) (b : ℕ) : Type 0 where
@@ -75,7 +64,7 @@ pub record IsOverAfter (scripts : List ScriptView) (p q : List Entry) (b : ℕ) 
 over_entry : (scripts : List ScriptView) (p : List Entry) (e : Entry) (b : ℕ) → IsCourse scripts p → is_over p ≡ true → e.caller.0 ≡ b → IsTurn scripts p e → IsOverAfter scripts p (e ∷ p) b
 over_entry scripts p e b course over own mine = record {
   over = rw (none, over) refl;
-  verdict = overall_next (length scripts) p e (course_legal scripts (e ∷ p) (mine, course)) ∙ rw r refl;
+  verdict = overall_more (length scripts) p e (course_legal scripts (e ∷ p) (mine, course)) ∙ rw r refl;
   locals = locals_ended (length scripts) p e (course_legal scripts (e ∷ p) (mine, course)) r;
   done = ap (turn scripts (e ∷ p)) (sym own) ∙ own_done scripts p e mine r;
   others = λ k had. by_caller k had (e.caller.0 == k) refl;
@@ -107,11 +96,7 @@ pub record AreOver (scripts : List ScriptView) (t u : Case) (n : ℕ) : Type 0 w
 pub over_more : (scripts : List ScriptView) (t u v : Case) (n : ℕ) → IsOn scripts u → AreOver scripts t u n → IsStepped scripts (past_of u) (past_of v) n → AreOver scripts t v (n + 1)
 over_more scripts t u v n on h step =
     let s = over_step scripts (past_of u) (past_of v) n on.course h.over step in
-    record { over = s.over; verdict = s.verdict ∙ h.verdict; locals = λ c. s.locals c ∙ h.locals c; done = λ b less. by_place s b less (nat_lt b n) refl }
-  where
-    by_place : IsOverAfter scripts (past_of u) (past_of v) n → (b : ℕ) → b < n + 1 → (t : Bool) → nat_lt b n ≡ t → turn scripts (past_of v) b ≡ None
-    by_place s b less true k = s.others b (h.done b (grind (arith, nat_tests)))
-    by_place s b less false k = let same : n ≡ b = grind (arith, nat_tests) in subst (λ x. turn scripts (past_of v) x ≡ None) same s.done
+    record { over = s.over; verdict = s.verdict ∙ h.verdict; locals = λ c. s.locals c ∙ h.locals c; done = below_more (λ b. turn scripts (past_of v) b ≡ None) n (λ b near. s.others b (h.done b near)) s.done }
 
 pub over_none : (scripts : List ScriptView) (t : Case) → is_over (past_of t) ≡ true → AreOver scripts t t 0
 over_none scripts t over = record { over = over; verdict = refl; locals = λ c. refl; done = λ b less. absurd (omega arith) }

@@ -1,11 +1,11 @@
 -- If what comes after each state that a search for local verdicts has seen is seen, or found, it has found the local
 -- verdicts of each complete course.
 use Rattle.std.proofs.Common.{ℕ, ◌≡◌, ◌+◌, ◌*◌, ◌<◌, ◌≤◌, ◌++◌, nat_eq, All, Bool, true, false, Some, None, List, [], ◌∷◌, length, map, reverse, slice_get, get_or, refl, ap, sym, subst, ◌∙◌, arith}
-use Rattle.std.{specs.{Cmp.Lexicographic.pointwise, List.IsDistinct, Option.unwrap_or}, proofs.lemmas.{List.{Elements.{All-nil, All-same, All-weaker}, length-map}, Option.{slice_get-get_or, slice_get_within}}}
+use Rattle.std.{specs.{Cmp.Lexicographic.pointwise, List.IsDistinct, Option.unwrap_or}, proofs.lemmas.{List.Elements.{All-nil, All-same, All-weaker}, Option.{slice_get-get_or, slice_get_within}}}
 use Rattle.tc_rules.{specs.Prelude.{Run, level_of, Comp, Entry, Op, Case, past_of, ends_case, is_over, is_active, Reply, entry_made}, proofs.Lemmas.Over.all_over}
 use Rattle.tc_step.specs.Prelude.{ScriptView}
 use Rattle.tc_course.{specs.{Prelude.{stand, steps_of, turn, IsTurn, IsCourse, IsComplete, IsOn, CannotGo, is_local}, Inside.call_of}, proofs.Lemmas.{below_more, course_legal, run_in_range, stand_comp, turn_of}}
-use Rattle.tc_explore.{specs.{Found.{AllLocalsFound, HasCourses}, Inside.{Seen.{IsLonger, IsWith}, Twins.{AreGoing, AreLocalsClosed, AreLocalsRuns, HasLocals, AreKeyed, IsGoing, IsLocalsAfter, IsLocalsAt, IsLocalsRun, IsMore, IsTwin, IsTwinSeen, twin_key}}, declared.search.Met.Met}, proofs.{Alike.active_alike, Closed.same_entry, Closing.answer_inactive, Keeping.{active_stays, comp_main, main_goes}, Kept.{all_with, courses_of, longer_with, no_courses}, LastCalls.locals_ended, Seeing.get_more, Simulation.some_if, States.at_longer, Twins.{locals_twin, matched, twin_ended, twin_then}}}
+use Rattle.tc_explore.{specs.{Found.{AllLocalsFound, HasCourses}, Inside.{Seen.{IsLonger, IsWith}, Twins.{AreGoing, AreLocalsClosed, AreLocalsRuns, HasLocals, AreKeyed, IsGoing, IsLocalsAfter, IsLocalsAt, IsLocalsRun, IsMore, IsTwin, IsTwinSeen, key_of}}, declared.search.Met.Met}, proofs.{Alike.active_alike, Closed.same_entry, Closing.answer_inactive, Keeping.{active_stays, comp_main, main_goes}, Kept.{all_with, courses_of, longer_with, no_courses}, LastCalls.locals_ended, Seeing.get_more, Simulation.some_if, States.at_longer, Twins.{locals_twin, matched, twin_ended, twin_then}}}
 
 -- ---- all courses
 
@@ -171,14 +171,14 @@ going_opening scripts t on is = record { on = on; going = ap is_over is }
 pub are_each : (scripts : List ScriptView) (met : Met) → AreGoing scripts met → All (IsGoing scripts) met.states.items
 are_each scripts met a = a.each
 
-pub going_none : (scripts : List ScriptView) (met : Met) → met.states.items ≡ [] → AreKeyed (twin_key (length scripts)) met → AreGoing scripts met
+pub going_none : (scripts : List ScriptView) (met : Met) → met.states.items ≡ [] → AreKeyed (key_of true (length scripts)) met → AreGoing scripts met
 going_none scripts met none keyed = record {
   few = let size : length met.states.items ≡ 0 = ap length none in omega (arith, size);
   each = All-same (IsGoing scripts) met.states.items [] none (All-nil (IsGoing scripts));
   keyed = keyed;
 }
 
-pub going_with : (scripts : List ScriptView) (met after : Met) (t : Case) → AreGoing scripts met → IsGoing scripts t → IsWith met.states.items t after.states.items → AreKeyed (twin_key (length scripts)) after → after.limit ≡ met.limit →
+pub going_with : (scripts : List ScriptView) (met after : Met) (t : Case) → AreGoing scripts met → IsGoing scripts t → IsWith met.states.items t after.states.items → AreKeyed (key_of true (length scripts)) after → after.limit ≡ met.limit →
     length after.states.items ≤ met.limit → AreGoing scripts after
 going_with scripts met after t a state with keyed limit within = record {
   few = omega (arith, limit, within);
@@ -188,7 +188,7 @@ going_with scripts met after t a state with keyed limit within = record {
 
 pub courses_met : (scripts : List ScriptView) (met : Met) → AreGoing scripts met → IsDistinct (λ x y. pointwise nat_eq x.items y.items) met.keys.keys → HasCourses scripts (length met.keys.keys)
 courses_met scripts met a distinct =
-    (map past_of met.states.items, courses_of scripts (twin_key (length scripts)) met a.keyed distinct (All-weaker (λ t. IsGoing scripts t) (λ t. IsCourse scripts (past_of t)) (λ t g. g.on.course) met.states.items a.each))
+    (map past_of met.states.items, courses_of scripts (key_of true (length scripts)) met a.keyed distinct (All-weaker (λ t. IsGoing scripts t) (λ t. IsCourse scripts (past_of t)) (λ t g. g.on.course) met.states.items a.each))
 
 -- a search that has met none
 pub courses_none : (scripts : List ScriptView) → HasCourses scripts 0

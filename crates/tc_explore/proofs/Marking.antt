@@ -1,10 +1,10 @@
 -- What is marked of the local verdicts of complete courses.
 use Rattle.std.proofs.Common.{ℕ, zero, suc, ◌≡◌, ◌==◌, ◌+◌, ◌*◌, ◌<◌, ◌≤◌, ◌++◌, nat_lt, if◌then◌else◌, Bool, true, false, Some, None, List, [], ◌∷◌, length, set, get_or, refl, ap, sym, ◌∙◌, arith}
 use Rattle.std.proofs.lemmas.{Bool.Decides.nat_tests, List.{get_or-set_other, get_or-set_same}}
-use Rattle.tc_rules.{specs.Prelude.{Verdict, level_of, Entry, Case, past_of, components, exists, local_if_any}, proofs.Lemmas.Deciding.{equal_if, self_equal}}
+use Rattle.tc_rules.{specs.Prelude.{Verdict, level_of, Entry, Case, past_of, components, exists, local_if_any}, proofs.Lemmas.{Deciding.{equal_if, self_equal}, Numbered.exists_below}}
 use Rattle.tc_step.specs.Prelude.{ScriptView}
 use Rattle.tc_course.{specs.Prelude.{IsComplete, IsOn, is_local}, proofs.Lemmas.{below_more, course_legal}}
-use Rattle.tc_explore.{specs.{Found.{AreLocals, GivesLocal}, Inside.{Seen.HasSameLocals, Twins.{HasLocal, HasLocals, IsMarked, IsMore, IsPadded}}}, proofs.Sameness.{at_most_error, exists_below, same_verdict}}
+use Rattle.tc_explore.{specs.{Found.{AreLocals, GivesLocal}, Inside.{Seen.HasSameLocals, Twins.{HasLocal, HasLocals, IsMarked, IsMore, IsPadded}}}, proofs.Sameness.{at_most_error, same_verdict}}
 
 -- ---- one place
 

@@ -1,5 +1,5 @@
 -- Searches for verdicts, each up to a better one: what they have found together.
-use Rattle.std.proofs.{lemmas.Bool.{and_parts, Decides.nat_tests}, Common.{ℕ, suc, ◌≡◌, ◌<◌, ◌≤◌, ◌&&◌, nat_lt, nat_le, if◌then◌else◌, Bool, true, false, Option, Some, None, List, refl, ap, sym, subst, ◌∙◌, arith, [], length, reverse}}
+use Rattle.std.proofs.{lemmas.Bool.{and_parts, Decides.nat_tests, cases_lt}, Common.{ℕ, suc, ◌≡◌, ◌<◌, ◌≤◌, ◌&&◌, nat_le, if◌then◌else◌, Bool, true, false, Option, Some, None, List, refl, ap, sym, subst, ◌∙◌, arith, [], length, reverse, ⊎_elim}}
 use Rattle.tc_rules.specs.Prelude.{Verdict, level_of, Case, past_of, overall}
 use Rattle.tc_step.specs.Prelude.{ScriptView}
 use Rattle.tc_course.specs.{declared.witness.Witness.Witness, Prelude.{is_found, AllFound}}
@@ -19,31 +19,28 @@ within_if found aim w h l = let near : nat_le (level_of w) (level_of aim) ≡ tr
 
 -- a verdict of which one as bad is found is no worse than the worst of these
 told_below : (found : List Witness) (aim v : Verdict) (n : ℕ) → IsNoneFrom found aim (suc n) → IsToldBy aim found v → level_of v ≤ n
-told_below found aim v n none told = by_test (nat_le (suc n) (level_of told.0)) refl
-  where
-    by_test : (t : Bool) → nat_le (suc n) (level_of told.0) ≡ t → level_of v ≤ n
-    by_test true k =
-        let off : is_found_within found aim told.0 ≡ false = none told.0 (grind (arith, nat_tests)) in
-        let on : is_found_within found aim told.0 ≡ true = within_if found aim told.0 told.1 told.3 in
-        absurd cc
-    by_test false k = let less = told.2 in let low : level_of told.0 ≤ n = grind (arith, nat_tests) in omega (arith, less, low)
+told_below found aim v n none told =
+    ⊎_elim (λ (high : n < level_of told.0).
+    let off : is_found_within found aim told.0 ≡ false = none told.0 (omega (arith, high)) in
+    let on : is_found_within found aim told.0 ≡ true = within_if found aim told.0 told.1 told.3 in
+    absurd cc) (λ (low : level_of told.0 ≤ n). let less = told.2 in omega (arith, less, low)) (cases_lt n (level_of told.0))
 
 decided_if : (found : List Witness) (aim m a : Verdict) (rest : Option Verdict) → level_of m ≡ suc (level_of a) → IsNoneFrom found aim (suc (level_of m)) →
     (IsNoneFrom found aim (level_of m) → IsDecided found aim rest) → IsDecided found aim (if is_found_within found aim m then Some a else rest)
 decided_if found aim m a rest next none later = by_test (is_found_within found aim m) refl
   where
-    still : (w : Verdict) → level_of m ≤ level_of w → is_found_within found aim m ≡ false → (t : Bool) → nat_lt (level_of m) (level_of w) ≡ t → is_found_within found aim w ≡ false
-    still w l k true j = none w (grind (arith, nat_tests))
-    still w l k false j =
-        let same : level_of w ≡ level_of m = grind (arith, nat_tests) in
-        ap (is_found_within found aim) (same_verdict w m same) ∙ k
+    still : (w : Verdict) → level_of m ≤ level_of w → is_found_within found aim m ≡ false → is_found_within found aim w ≡ false
+    still w l k =
+        ⊎_elim (λ (high : level_of m < level_of w). none w (omega (arith, high))) (λ (low : level_of w ≤ level_of m).
+        let same : level_of w ≡ level_of m = omega (arith, l, low) in
+        ap (is_found_within found aim) (same_verdict w m same) ∙ k) (cases_lt (level_of m) (level_of w))
 
     by_test : (t : Bool) → is_found_within found aim m ≡ t → IsDecided found aim (if t then Some a else rest)
     by_test true k = λ v less told.
         let low = told_below found aim v (level_of m) none told in
         let same : level_of v ≡ level_of m = omega (arith, less, low, next) in
         ap (is_found found) (same_verdict v m same) ∙ (and_parts (nat_le (level_of m) (level_of aim)) (is_found found m) k).1
-    by_test false k = later (λ w l. still w l k (nat_lt (level_of m) (level_of w)) refl)
+    by_test false k = later (λ w l. still w l k)
 
 abbrev from_pass : List Witness → Verdict → Option Verdict
 from_pass found aim = if is_found_within found aim Verdict.Pass then Some Verdict.None else None
@@ -63,14 +60,10 @@ decided found aim =
     (λ pass. λ v told. only_none pass v told (told_below found aim v 0 pass told)))))
   where
     only_none : IsNoneFrom found aim 1 → (v : Verdict) → IsToldBy aim found v → level_of v ≤ 0 → is_found found v ≡ true
-    only_none pass v told low = by_test (nat_le 1 (level_of told.0)) refl
-      where
-        by_test : (t : Bool) → nat_le 1 (level_of told.0) ≡ t → is_found found v ≡ true
-        by_test true k =
-            let off : is_found_within found aim told.0 ≡ false = pass told.0 (grind (arith, nat_tests)) in
-            let on : is_found_within found aim told.0 ≡ true = within_if found aim told.0 told.1 told.3 in
-            absurd cc
-        by_test false k = let same : level_of v ≡ level_of told.0 = grind (arith, nat_tests) in ap (is_found found) (same_verdict v told.0 same) ∙ told.1
+    only_none pass v told low =
+        let high = told_below found aim told.0 0 pass (told.0, told.1, omega arith, told.3) in
+        let same : level_of v ≡ level_of told.0 = omega (arith, low, high) in
+        ap (is_found found) (same_verdict v told.0 same) ∙ told.1
 
 abbrev verdict_of : Option Verdict → Verdict
 verdict_of (Some v) = v
@@ -96,31 +89,17 @@ lower found aim a =
     (lower_if found aim Verdict.Inconc Verdict.Pass a (from_pass found aim) refl
     (lower_if found aim Verdict.Pass Verdict.None a None refl (λ e. absurd cc))))
 
--- what was found stays so
-above_longer : (scripts : List ScriptView) (f g : List Witness) (aim : Verdict) → IsLonger f g → AreFoundAbove aim scripts f → AreFoundAbove aim scripts g
-above_longer scripts f g aim more above v worse gives = found_longer f g v more (above v worse gives)
-
 -- one search more
 pub above_next : (scripts : List ScriptView) (f g : List Witness) (aim a : Verdict) → IsLonger f g → AreFoundAbove aim scripts f → AllTold aim scripts g → Some a ≡ next_aim g aim → AreFoundAbove a scripts g
-above_next scripts f g aim a more above told is v worse gives = by_test (nat_lt (level_of aim) (level_of v)) refl
-  where
-    here : IsDecided g aim (Some a)
-    here = subst (IsDecided g aim) (sym is) (decided g aim)
-
-    by_test : (t : Bool) → nat_lt (level_of aim) (level_of v) ≡ t → is_found g v ≡ true
-    by_test true k = above_longer scripts f g aim more above v (grind (arith, nat_tests)) gives
-    by_test false k = here v worse (told v (grind (arith, nat_tests)) gives)
+above_next scripts f g aim a more above told is v worse gives =
+    let here : IsDecided g aim (Some a) = subst (IsDecided g aim) (sym is) (decided g aim) in
+    ⊎_elim (λ high. found_longer f g v more (above v high gives)) (λ low. here v worse (told v low gives)) (cases_lt (level_of aim) (level_of v))
 
 -- the last search
 pub above_all : (scripts : List ScriptView) (f g : List Witness) (aim : Verdict) → IsLonger f g → AreFoundAbove aim scripts f → AllTold aim scripts g → None ≡ next_aim g aim → AllFound scripts g
-above_all scripts f g aim more above told is history v one = by_test (nat_lt (level_of aim) (level_of v)) refl
-  where
-    here : IsDecided g aim None
-    here = subst (IsDecided g aim) (sym is) (decided g aim)
-
-    by_test : (t : Bool) → nat_lt (level_of aim) (level_of v) ≡ t → is_found g v ≡ true
-    by_test true k = above_longer scripts f g aim more above v (grind (arith, nat_tests)) (history, one)
-    by_test false k = here v (told v (grind (arith, nat_tests)) (history, one))
+above_all scripts f g aim more above told is history v one =
+    let here : IsDecided g aim None = subst (IsDecided g aim) (sym is) (decided g aim) in
+    ⊎_elim (λ high. found_longer f g v more (above v high (history, one))) (λ low. here v (told v low (history, one))) (cases_lt (level_of aim) (level_of v))
 
 -- no verdict is worse than error
 pub above_error : (scripts : List ScriptView) (found : List Witness) → AreFoundAbove Verdict.Error scripts found

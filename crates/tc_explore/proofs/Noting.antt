@@ -1,5 +1,5 @@
 -- Witnesses of which no verdict has two. Each is a legal history.
-use Rattle.std.{proofs.{lemmas.{Bool.{or_right, Decides.nat_tests}, List.{Elements.All-push, Sorted.{All-permutation, list_any-IsPermutation}, get_or_append_left}, Map.Keys.{IsDistinct-IsPermutation, IsDistinct-from_apart, apart_from_distinct}}, Common.{ℕ, zero, suc, ◌≡◌, ◌==◌, ◌<◌, ◌≤◌, ◌||◌, Bool, true, false, nat_lt, List, [], ◌∷◌, ◌++◌, length, reverse, get_or, refl, ap, sym, ◌∙◌, arith, length-append}, Math.Seq.get_or-append_seam}, specs.List.{IsDistinct, Sorted.{IsNonDecreasingBy, IsPermutation}}}
+use Rattle.std.{proofs.{lemmas.{Bool.{Decides.nat_tests, cases_order, false_from_ne_true}, List.{Elements.All-push, Sorted.{All-permutation, list_any-IsPermutation}, get_or_append_left, Folds.list_any_at}, Map.Keys.{IsDistinct-IsPermutation, IsDistinct-from_apart, apart_from_distinct}}, Common.{ℕ, ◌≡◌, ◌==◌, ◌<◌, ◌≤◌, ◌||◌, Bool, true, false, nat_lt, List, [], ◌∷◌, ◌++◌, length, reverse, get_or, refl, ap, sym, ◌∙◌, arith, length-append, ⊎_elim}, Math.Seq.get_or-append_seam}, specs.List.{IsDistinct, Sorted.{IsNonDecreasingBy, IsPermutation}}}
 use Rattle.tc_rules.{specs.Prelude.{Verdict, level_of}, proofs.Lemmas.Deciding.{equal_if, self_equal}}
 use Rattle.tc_step.specs.Prelude.{ScriptView}
 use Rattle.tc_course.{specs.{declared.witness.Witness.Witness, Prelude.{IsWitness, AllFound, is_found, AreLegal, AreWitnesses}}, proofs.Lemmas.course_legal}
@@ -7,13 +7,8 @@ use Rattle.tc_explore.{specs.{Found.{AreCovered, AreFromBest, Covers}, Inside.Se
 
 -- the verdict of one of them is found
 found_at : (found : List Witness) (i : ℕ) (d : Witness) (v : Verdict) → i < length found → (get_or found i d).verdict ≡ v → is_found found v ≡ true
-found_at [] i d v near is = absurd (omega arith)
-found_at (w ∷ ws) zero d v near is =
-    let here : (level_of w.verdict == level_of v) ≡ true = ap (λ u. level_of u == level_of v) is ∙ self_equal (level_of v) in
-    ap (λ t. t || is_found ws v) here
-found_at (w ∷ ws) (suc i) d v near is =
-    let rest : is_found ws v ≡ true = found_at ws i d v (omega arith) is in
-    ap (λ t. (level_of w.verdict == level_of v) || t) rest ∙ or_right (level_of w.verdict == level_of v) true refl
+found_at found i d v near is =
+    list_any_at (λ w. level_of w.verdict == level_of v) found i d near (ap (λ u. level_of u == level_of v) is ∙ self_equal (level_of v))
 
 pub some_found : (found : List Witness) (v : Verdict) → is_found found v ≡ true → 1 ≤ length found
 some_found [] v is = absurd cc
@@ -68,39 +63,25 @@ has_same : Witness → Witness → Bool
 has_same x y = level_of x.verdict == level_of y.verdict
 
 flip_equal : (m n : ℕ) → (m == n) ≡ (n == m)
-flip_equal m n = by_tests (m == n) refl (n == m) refl
-  where
-    by_tests : (s : Bool) → (m == n) ≡ s → (t : Bool) → (n == m) ≡ t → (m == n) ≡ (n == m)
-    by_tests true a true b = a ∙ sym b
-    by_tests false a false b = a ∙ sym b
-    by_tests true a false b = let yes : (n == m) ≡ true = ap (λ x. n == x) (equal_if m n a) ∙ self_equal n in absurd cc
-    by_tests false a true b = let yes : (m == n) ≡ true = ap (λ x. m == x) (equal_if n m b) ∙ self_equal m in absurd cc
+flip_equal m n = grind (arith, nat_tests)
 
 apart_if_once : (found : List Witness) → IsOnce found → (i j : ℕ) (d : Witness) → i < j → j < length found → has_same (get_or found i d) (get_or found j d) ≡ false
 unfolding has_same
-apart_if_once found once i j d less near = by_test (level_of (get_or found i d).verdict == level_of (get_or found j d).verdict) refl
-  where
-    by_test : (t : Bool) → (level_of (get_or found i d).verdict == level_of (get_or found j d).verdict) ≡ t → (level_of (get_or found i d).verdict == level_of (get_or found j d).verdict) ≡ false
-    by_test false k = k
-    by_test true k =
-        let same = same_verdict (get_or found i d).verdict (get_or found j d).verdict (equal_if (level_of (get_or found i d).verdict) (level_of (get_or found j d).verdict) k) in
-        let is : i ≡ j = once i j d (omega (arith, less, near)) near same in
-        absurd (omega (arith, is, less))
+apart_if_once found once i j d less near = false_from_ne_true (level_of (get_or found i d).verdict == level_of (get_or found j d).verdict) (λ k.
+    let same = same_verdict (get_or found i d).verdict (get_or found j d).verdict (equal_if (level_of (get_or found i d).verdict) (level_of (get_or found j d).verdict) k) in
+    let is : i ≡ j = once i j d (omega (arith, less, near)) near same in
+    omega (arith, is, less))
 
 once_if_distinct : (found : List Witness) → IsDistinct has_same found → IsOnce found
 unfolding has_same
-once_if_distinct found distinct i j d near_i near_j same = by_places (nat_lt i j) refl (nat_lt j i) refl
+once_if_distinct found distinct i j d near_i near_j same =
+    ⊎_elim (λ is. is) (⊎_elim (λ less. never i j less near_j same) (λ more. never j i more near_i (sym same))) (cases_order i j)
   where
     never : (k l : ℕ) → k < l → l < length found → (get_or found k d).verdict ≡ (get_or found l d).verdict → i ≡ j
     never k l less near one =
         let off : (level_of (get_or found k d).verdict == level_of (get_or found l d).verdict) ≡ false = apart_from_distinct has_same found k l d distinct less near in
         let on : (level_of (get_or found k d).verdict == level_of (get_or found l d).verdict) ≡ true = ap (λ v. level_of v == level_of (get_or found l d).verdict) one ∙ self_equal (level_of (get_or found l d).verdict) in
         absurd cc
-
-    by_places : (s : Bool) → nat_lt i j ≡ s → (t : Bool) → nat_lt j i ≡ t → i ≡ j
-    by_places true a t b = never i j (grind (arith, nat_tests)) near_j same
-    by_places false a true b = never j i (grind (arith, nat_tests)) near_i (sym same)
-    by_places false a false b = grind (arith, nat_tests)
 
 flip_same : (x y : Witness) → has_same x y ≡ has_same y x
 unfolding has_same

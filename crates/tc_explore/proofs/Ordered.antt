@@ -1,10 +1,10 @@
 -- For what runs wait from now on: each component that they wait for comes before their own by rank, so that they do not wait
 -- for one another.
 use Rattle.std.{proofs.Common.{ℕ, ◌≡◌, ◌+◌, ◌≤◌, ◌==◌, ◌⊎◌, inl, inr, if◌then◌else◌, Bool, true, false, Option, Some, None, is_some, List, ◌∷◌, length, slice_get, refl, ap, sym, subst, ◌∙◌, arith}, specs.Option.unwrap_or}
-use Rattle.tc_rules.{specs.Prelude.{Comp, Entry, Op, comp_of, created, started_on, first_some, phase, phase_if_any, is_active, is_active_on, is_run_of, IsLegal, Verdict, is_wake, Phase}, proofs.Lemmas.{Deciding.{and_left, equal_if}, Going.{halted_by_entry, started_by_entry}}}
+use Rattle.tc_rules.{specs.Prelude.{Comp, Entry, Op, comp_of, created, started_on, first_some, phase, phase_if_any, is_active, is_active_on, is_run_of, IsLegal, Verdict, is_wake, Phase}, proofs.Lemmas.{Deciding.{and_left, equal_if, first_alone}, Going.{halted_by_entry, started_by_entry}}}
 use Rattle.tc_step.specs.{declared.step.Step.Step, Prelude.ScriptView}
 use Rattle.tc_course.{specs.{Prelude.{CourseState, stand, after_own, steps_of, IsTurn, IsCourse}, Inside.{wake_if, call_of}}, proofs.Lemmas.{course_legal, HasTurn, has_turn, never_wake, stand_own, stand_other, stand_comp}}
-use Rattle.tc_explore.{specs.Inside.Simulation.{IsAlike, is_gone, call_at, place_by, IsAhead, IsOrdered, AreOrdered}, proofs.{Alike.{any_phase_same, first_kept}, Late.{gone_if, gone_is, gone_next}, Places.kept_bound}}
+use Rattle.tc_explore.{specs.Inside.Simulation.{IsAlike, is_gone, place_by, IsAhead, IsOrdered, AreOrdered}, proofs.{Alike.any_phase_same, Late.{gone_if, gone_is, gone_next}, Places.own_call}}
 
 -- ---- one run
 
@@ -22,11 +22,7 @@ pub ordered_own : (scripts : List ScriptView) (rank : ℕ → ℕ) (q : List Ent
     IsOrdered scripts rank q c b s → IsOrdered scripts rank q c b (after_own e s)
 ordered_own scripts rank q c b s e made wakes h = λ k killed t l call.
     let first = from_next (is_wake e.op) s.wake (wake_if e.op e.reply) s.called wakes in
-    h k killed t (omega (arith, first, l)) (sym (same_call s.comp k) ∙ call)
-  where
-    same_call : (o : Option Comp) (k : ℕ) → call_at scripts b (after_own e s) o k ≡ call_at scripts b s o k
-    same_call None k = refl
-    same_call (Some me) k = rw (kept_bound e s made) refl
+    h k killed t (omega (arith, first, l)) (sym (own_call scripts b s e made s.comp k) ∙ call)
 
 -- ---- all runs
 
@@ -78,7 +74,7 @@ order_stays scripts p q e cp order made no_run = record {
 }
   where
     kept : (b : ℕ) → comp_of (e ∷ p) b ≡ comp_of p b
-    kept b = ap (first_some (comp_of p b)) (no_run b) ∙ first_kept (comp_of p b)
+    kept b = ap (first_some (comp_of p b)) (no_run b) ∙ first_alone (comp_of p b)
 
     by_test : (c b : ℕ) → is_active p b ≡ true → comp_of p b ≡ Some (record { 0 = c }) → phase q c ≡ Phase.Killed → (t : Bool) → (e.caller.0 == b) ≡ t → IsOrdered scripts order.rank q c b (stand (e ∷ p) b)
     by_test c b act on dead true k =

@@ -1,9 +1,9 @@
 -- A case in which no run can continue: each that is running is parked, and the main component's Wake is an error.
-use Rattle.std.{proofs.{Common.{ℕ, ◌≡◌, ◌<◌, ◌≤◌, ◌+◌, ◌==◌, ◌⊎◌, inl, inr, nat_lt, if◌then◌else◌, Bool, true, false, Option, Some, None, List, [], ◌∷◌, length, slice_get, slice_index_or, refl, ap, sym, subst, ◌∙◌, arith}, lemmas.Bool.Decides.nat_tests}, specs.List.list_all}
-use Rattle.tc_rules.{specs.Prelude.{Run, Comp, Entry, Op, Target, Phase, Reply, Fault, is_ended, is_fault, is_wake, Case, past_of, comps, comp_of, started_on, is_alive_type, is_over, phase, last_run, was_killed, was_halted, overall, holds, waiting, waits_in_vain, is_still, is_stuck, fault, answer, plain_answer, is_active, is_run_of, IsLegal, Verdict}, proofs.Lemmas.{Deciding.{equal_if, self_equal}, Going.last_on_it, Steps.phase_by}}
+use Rattle.std.proofs.{Common.{ℕ, ◌≡◌, ◌<◌, ◌≤◌, ◌+◌, ◌==◌, ◌⊎◌, inl, inr, if◌then◌else◌, Bool, true, false, Option, Some, None, List, [], ◌∷◌, length, slice_get, slice_index_or, refl, ap, sym, subst, ◌∙◌, arith, get_or}, lemmas.{Bool.false_from_ne_true, List.Sums.list_all-from_AllPass}}
+use Rattle.tc_rules.{specs.Prelude.{Run, Comp, Entry, Op, Target, Phase, Reply, Fault, is_ended, is_fault, is_wake, Case, past_of, comps, comp_of, is_alive_type, is_over, phase, last_run, was_killed, was_halted, overall, holds, waiting, waits_in_vain, is_still, is_stuck, fault, answer, plain_answer, is_active, is_run_of, IsLegal, Verdict}, proofs.Lemmas.{Deciding.{equal_if, self_equal}, Going.last_on_it, Steps.phase_by, Decided.overall_more}}
 use Rattle.tc_step.specs.Prelude.{ScriptView}
-use Rattle.tc_course.{specs.{Inside.{call_of, one_more_if}, declared.witness.Witness.Witness, Prelude.{CourseState, stand, goes_on, carried_on, after_other_by, turn, steps_of, IsTurn, IsCourse, is_found, IsOn}}, proofs.Lemmas.{course_legal, other_not_idle, has_turn, turn_of, never_wake, stand_own, stand_other, stand_comp, run_in_range}}
-use Rattle.tc_explore.{specs.{Found.Covers, Inside.{Seen.{AreHeld, AreStill, HasNoWake, IsOpen, IsRunClosed, IsStepped, IsSteppedIfActive}, Simulation.{GoesOn, IsAlike, is_quiet}}}, proofs.{Alike.{ChangesNothing, active_alike, alike_unchanged, fault_alike, holds_alike, overall_next}, Closing.{answer_fault, answer_plain, error_is_worst, fault_of_wait, not_ended, parks_wait, quiet_reply}, Keeping.{active_stays, comp_main, main_goes}, LastCalls.turn_by, Places.not_ending, Simulation.{some_if, unchanged_wait}}}
+use Rattle.tc_course.{specs.{Inside.{call_of, one_more_if}, declared.witness.Witness.Witness, Prelude.{CourseState, stand, goes_on, carried_on, turn, steps_of, IsTurn, IsCourse, is_found, IsOn}}, proofs.Lemmas.{course_legal, other_not_idle, has_turn, turn_of, never_wake, stand_own, stand_other, stand_comp, run_in_range, below_more}}
+use Rattle.tc_explore.{specs.{Found.Covers, Inside.{Seen.{AreHeld, AreStill, HasNoWake, IsOpen, IsRunClosed, IsStepped, IsSteppedIfActive}, Simulation.{GoesOn, IsAlike, is_quiet}}}, proofs.{Alike.{ChangesNothing, active_alike, alike_unchanged, fault_alike, holds_alike}, Closing.{answer_fault, error_is_worst, fault_of_wait, not_ended, parks_wait, quiet_reply}, Keeping.{active_stays, comp_main, main_goes}, LastCalls.turn_by, Places.{not_ending, stand_still}, Simulation.{some_if, unchanged_wait}, Ahead.{answer_plain, active_if}}}
 
 -- ---- who is held
 
@@ -98,14 +98,12 @@ parked_none scripts t = record {
 }
 
 pub parked_skip : (scripts : List ScriptView) (t u : Case) (k : ℕ) → is_active (past_of u) k ≡ false → AreParked scripts t u k → AreParked scripts t u (k + 1)
-parked_skip scripts t u k off h = record { alike = h.alike; parked = λ b less act. by_place b less act (nat_lt b k) refl; later = λ b less. h.later b (omega arith); main = h.main }
-  where
-    by_place : (b : ℕ) → b < k + 1 → is_active (past_of t) b ≡ true → (s : Bool) → nat_lt b k ≡ s → IsParkedIn scripts (past_of t) (past_of u) b
-    by_place b less act true j = h.parked b (grind (arith, nat_tests)) act
-    by_place b less act false j =
-        let same : b ≡ k = grind (arith, nat_tests) in
-        let on : is_active (past_of u) k ≡ true = ap (is_active (past_of u)) (sym same) ∙ (active_alike h.alike b ∙ act) in
-        absurd cc
+parked_skip scripts t u k off h = record {
+  alike = h.alike;
+  parked = below_more (λ b. is_active (past_of t) b ≡ true → IsParkedIn scripts (past_of t) (past_of u) b) k h.parked (λ act. let on : is_active (past_of u) k ≡ true = active_alike h.alike k ∙ act in absurd cc);
+  later = λ b less. h.later b (omega arith);
+  main = h.main;
+}
 
 pub alike_then : (p q r : List Entry) → IsAlike p q → IsAlike q r → IsAlike p r
 alike_then p q r a b = record {
@@ -184,30 +182,18 @@ module _ (scripts : List ScriptView) (q r : List Entry) (e : Entry) (b : ℕ) (o
         unmet = p.unmet;
       }
 
-  stands_on : (c : ℕ) → (e.caller.0 == c) ≡ false → stand (e ∷ r) c ≡ stand r c
-  stands_on c other = rw other (by_comp (stand r c).comp)
-    where
-      none : started_on e c ≡ None
-      none = unchanged.no_run c
-
-      by_comp : (o : Option Comp) → after_other_by o e c (stand r c) ≡ stand r c
-      by_comp (Some d) = refl
-      by_comp None = rw none refl
-
 unequal : (x y z : ℕ) → x ≡ y → (y ≡ z → ⊥) → (x == z) ≡ false
-unequal x y z h k = by_test (x == z) refl
-  where
-    by_test : (t : Bool) → (x == z) ≡ t → t ≡ false
-    by_test false j = refl
-    by_test true j = absurd (k (sym h ∙ equal_if x z j))
+unequal x y z h k = false_from_ne_true (x == z) (λ j. k (sym h ∙ equal_if x z j))
 
 parked_entry : (scripts : List ScriptView) (t u v : Case) (e : Entry) (k : ℕ) → past_of v ≡ e ∷ past_of u → e.caller.0 ≡ k → IsTurn scripts (past_of u) e → IsOpen scripts t → IsOn scripts u → is_active (past_of t) k ≡ true →
     AreParked scripts t u k → IsWaitAt scripts (past_of t) k → AreParked scripts t v (k + 1)
 parked_entry scripts t u v e k is own mine o on act h w = record {
   alike = subst (λ x. IsAlike x q) (sym is) (after scripts q r e k own mine o.on.course on.course act h.alike same w);
-  parked = λ b less act_b. subst (λ x. IsParkedIn scripts q x b) (sym is) (by_place b less act_b (nat_lt b k) refl);
+  parked = subst (λ x. (b : ℕ) → b < k + 1 → is_active q b ≡ true → IsParkedIn scripts q x b) (sym is) (below_more (λ b. is_active q b ≡ true → IsParkedIn scripts q (e ∷ r) b) k
+      (λ b near act_b. still_parked scripts q r e k own mine o.on.course on.course act h.alike same w b (unequal e.caller.0 k b own (λ x. omega (arith, x, near))) act_b (h.parked b near act_b))
+      (λ act_k. now_parked scripts q r e k own mine o.on.course on.course act h.alike same w));
   later = λ b far. subst (λ x. stand x b ≡ stand q b) (sym is)
-      (stands_on scripts q r e k own mine o.on.course on.course act h.alike same w b (unequal e.caller.0 k b own (λ x. omega (arith, x, far))) ∙ h.later b (omega (arith, far)));
+      (stand_still r e b (unequal e.caller.0 k b own (λ x. omega (arith, x, far))) ((unchanged scripts q r e k own mine o.on.course on.course act h.alike same w).no_run b) ∙ h.later b (omega (arith, far)));
   main = ap (λ x. carried_on x 0) is ∙ (uncounted scripts q r e k own mine o.on.course on.course act h.alike same w ∙ h.main);
 }
   where
@@ -219,14 +205,6 @@ parked_entry scripts t u v e k is own mine o on act h w = record {
 
     same : stand r k ≡ stand q k
     same = h.later k (omega arith)
-
-    by_place : (b : ℕ) → b < k + 1 → is_active q b ≡ true → (s : Bool) → nat_lt b k ≡ s → IsParkedIn scripts q (e ∷ r) b
-    by_place b less act_b true j =
-        let near : b < k = grind (arith, nat_tests) in
-        still_parked scripts q r e k own mine o.on.course on.course act h.alike same w b (unequal e.caller.0 k b own (λ x. omega (arith, x, near))) act_b (h.parked b near act_b)
-    by_place b less act_b false j =
-        let is_k : k ≡ b = grind (arith, nat_tests) in
-        subst (IsParkedIn scripts q (e ∷ r)) is_k (now_parked scripts q r e k own mine o.on.course on.course act h.alike same w)
 
 pub parked_more : (scripts : List ScriptView) (t u v : Case) (k : ℕ) → 1 ≤ length scripts → IsOpen scripts t → AreHeld scripts (past_of t) → IsOn scripts u → is_active (past_of u) k ≡ true → AreParked scripts t u k →
     IsStepped scripts (past_of u) (past_of v) k → AreParked scripts t v (k + 1)
@@ -288,17 +266,9 @@ pub phase_running : (past : List Entry) (c : ℕ) (r : Run) → phase past c ≡
 unfolding phase
 phase_running past c r h = running_by (was_killed past c) (last_run past c) (was_halted past c) (is_alive_type past c) r h
 
-pub active_if : (past : List Entry) (b : ℕ) (c : Comp) → comp_of past b ≡ Some c → is_run_of b (phase past c.0) ≡ true → is_active past b ≡ true
-unfolding is_active
-active_if past b c e h = rw e h
-
-all_true : (f : ℕ → Bool) (xs : List ℕ) → ((x : ℕ) → f x ≡ true) → list_all f xs ≡ true
-all_true f [] h = refl
-all_true f (x ∷ xs) h = rw (h x, all_true f xs h)
-
 stuck_if : (n : ℕ) (past : List Entry) → 1 ≤ n → IsLegal n past → ((b : ℕ) → b < n → is_active past b ≡ true → waits_in_vain past (waiting past b) ≡ true) → is_stuck past ≡ true
 unfolding is_stuck
-stuck_if n past some legal all = all_true (λ c. is_still past (phase past c)) (comps past) (λ c. still_at c (phase past c) refl)
+stuck_if n past some legal all = list_all-from_AllPass (λ c. is_still past (phase past c)) (comps past) (λ k d near. still_at (get_or (comps past) k d) (phase past (get_or (comps past) k d)) refl)
   where
     still_at : (c : ℕ) (p : Phase) → phase past c ≡ p → is_still past p ≡ true
     still_at c (Phase.Running r) k =
@@ -308,7 +278,7 @@ stuck_if n past some legal all = all_true (λ c. is_still past (phase past c)) (
 
 -- after a Fault the case is over, with error
 fault_ends : (n : ℕ) (q : List Entry) (e : Entry) (f : Fault) → IsLegal n (e ∷ q) → e.reply ≡ Reply.Fault f → (is_over (e ∷ q) ≡ true) × (overall (e ∷ q) ≡ Verdict.Error)
-fault_ends n q e f legal is = (rw is refl, overall_next n q e legal ∙ rw is (error_is_worst (overall q)))
+fault_ends n q e f legal is = (rw is refl, overall_more n q e legal ∙ rw is (error_is_worst (overall q)))
 
 -- the case is over, with error, and its main run has carried out one call more
 pub record IsStuckEnd (t v : Case) : Type 0 where
@@ -371,7 +341,7 @@ stuck_end scripts t u v n some whole o on h step = by_step step
 
 pub held_if : {aim : Verdict} (scripts : List ScriptView) (states : List Case) (found : List Witness) (q : List Entry) → IsCourse scripts q → AreStill scripts q (length scripts) →
     ((b : ℕ) → b < length scripts → IsRunClosed aim scripts states found q b) → is_found found Verdict.Error ≡ false → AreHeld scripts q
-held_if scripts states found q course still closed none b near e own mine = by_goes (goes_on e.reply) refl
+held_if scripts states found q course still closed none b near e own mine = false_from_ne_true (goes_on e.reply) (λ k. by_reply k e.reply refl (still b near e own mine k))
   where
     by_reply : goes_on e.reply ≡ true → (r : Reply) → e.reply ≡ r → is_fault r ≡ true → ⊥
     by_reply k (Reply.Fault f) is h =
@@ -379,10 +349,6 @@ held_if scripts states found q course still closed none b near e own mine = by_g
         let told : is_found found Verdict.Error ≡ true = ap (is_found found) (sym ends.1) ∙ (closed b near e own mine k).over ends.0 in
         absurd cc
     by_reply k _ is h = absurd cc
-
-    by_goes : (s : Bool) → goes_on e.reply ≡ s → s ≡ false
-    by_goes false k = refl
-    by_goes true k = absurd (by_reply k e.reply refl (still b near e own mine k))
 
 -- a run that continues is not held
 pub never_held : (scripts : List ScriptView) (q : List Entry) → 1 ≤ length scripts → IsCourse scripts q → GoesOn scripts q → AreHeld scripts q → ⊥

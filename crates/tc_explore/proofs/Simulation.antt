@@ -1,10 +1,10 @@
 -- A history that represents another still does after one more turn of either.
-use Rattle.std.proofs.{Common.{ℕ, ◌≡◌, ◌==◌, ◌⊎◌, not, Bool, true, false, Option, Some, None, MatchOption, List, ◌∷◌, length, refl, ap, sym, subst, ◌∙◌, arith, ◌≤◌, ⊎_elim, inl, inr}, lemmas.Bool.Decides.nat_tests}
-use Rattle.tc_rules.{specs.{Prelude.{Verdict, worse, level_of, given, Comp, Entry, Op, Reply, is_fault, is_ok, comp_of, created, starts_run, started_on, phase, start_in, overall, gives, setting, is_active, plain_answer, halting_op, IsLegal, Phase}, Inside.Step.next_local}, proofs.Lemmas.{Deciding.{and_left, equal_if, if_same}, Going.{halted_by_entry, others_halt_nothing}, Kept.inactive}}
+use Rattle.std.proofs.{Common.{ℕ, ◌≡◌, ◌==◌, ◌⊎◌, not, Bool, true, false, Option, Some, None, MatchOption, List, ◌∷◌, length, refl, ap, sym, subst, ◌∙◌, arith, ◌≤◌, ⊎_elim, inl, inr, ◌<◌}, lemmas.Bool.Decides.nat_tests}
+use Rattle.tc_rules.{specs.{Prelude.{Verdict, worse, level_of, given, Comp, Entry, Op, Reply, is_fault, is_ok, comp_of, created, starts_run, started_on, phase, start_in, overall, gives, setting, is_active, plain_answer, halting_op, IsLegal, Phase}, Inside.Step.next_local}, proofs.Lemmas.{Deciding.{and_left, equal_if, if_same}, Going.{halted_by_entry, others_halt_nothing}, Kept.inactive, Decided.overall_more}}
 use Rattle.tc_step.specs.Prelude.{ScriptView}
 use Rattle.tc_course.{specs.Prelude.{CourseState, stand, IsCourse}, proofs.Lemmas.{course_legal, stand_other, stand_comp}}
 use Rattle.tc_verdict.proofs.Lemmas.Order.{worse_right}
-use Rattle.tc_explore.{specs.Inside.Simulation.{IsAlike, is_quiet, call_at, IsWakeOf, IsBefore, IsParkedAt, IsFollowed, IsLeaving, IsEnding, IsAhead, IsFor}, proofs.{Ahead.{KeepsQuiet, ahead_after, ahead_turn}, Alike.{ChangesNothing, active_alike, alike_sym, alike_unchanged, fault_alike, late_alike, met_alike, overall_grows, overall_next, worse_most}, Ordered.{order_alike, order_both, order_stays}, Places.keeps_quiet}}
+use Rattle.tc_explore.{specs.Inside.Simulation.{IsAlike, is_quiet, call_at, IsWakeOf, IsBefore, IsParkedAt, IsFollowed, IsLeaving, IsEnding, IsAhead, IsFor, AreOrdered}, proofs.{Ahead.{KeepsQuiet, ahead_after, ahead_turn}, Alike.{ChangesNothing, active_alike, alike_sym, alike_unchanged, fault_alike, late_alike, met_alike, overall_grows, worse_most}, Ordered.{order_alike, order_both, order_stays}, Places.keeps_quiet}}
 
 -- ---- entries that change nothing
 
@@ -51,7 +51,7 @@ unchanged_ended past e r = record {
 }
 
 pub ended_kept : (n : ℕ) (past : List Entry) (e : Entry) → IsLegal n (e ∷ past) → e.reply ≡ Reply.Ended → overall (e ∷ past) ≡ overall past
-ended_kept n past e legal r = overall_next n past e legal ∙ rw r refl
+ended_kept n past e legal r = overall_more n past e legal ∙ rw r refl
 
 -- a quiet call makes the verdict no worse than this one
 set_within : (w : Verdict) (op : Op) (x : Verdict) → is_quiet w op ≡ true → level_of x ≤ level_of w → level_of (next_local (setting op) x) ≤ level_of w
@@ -66,7 +66,7 @@ gift_within w op _ x f h l = l
 
 pub quiet_within : (w : Verdict) (n : ℕ) (past : List Entry) (e : Entry) → IsLegal n (e ∷ past) → is_quiet w e.op ≡ true → is_fault e.reply ≡ false → level_of (overall past) ≤ level_of w →
     level_of (overall (e ∷ past)) ≤ level_of w
-quiet_within w n past e legal quiet plain l = rw (overall_next n past e legal) (gift_within w e.op e.reply (overall past) plain quiet l)
+quiet_within w n past e legal quiet plain l = rw (overall_more n past e legal) (gift_within w e.op e.reply (overall past) plain quiet l)
 
 made_by : (w x y : Verdict) (past : List Entry) (b : ℕ) (op : Op) (r : Reply) → is_quiet w op ≡ true → r ≡ plain_answer past b op → y ≡ next_local (gives op r) x → is_quiet y op ≡ true
 made_by w x y past b (Op.SetVerdict v) r h is k =
@@ -77,7 +77,7 @@ made_by w x y past b _ r h is k = h
 
 -- once it is made it sets no worse verdict
 pub quiet_made : (w : Verdict) (n : ℕ) (past : List Entry) (b : ℕ) (e : Entry) → IsLegal n (e ∷ past) → is_quiet w e.op ≡ true → e.reply ≡ plain_answer past b e.op → is_quiet (overall (e ∷ past)) e.op ≡ true
-quiet_made w n past b e legal quiet is = made_by w (overall past) (overall (e ∷ past)) past b e.op e.reply quiet is (overall_next n past e legal)
+quiet_made w n past b e legal quiet is = made_by w (overall past) (overall (e ∷ past)) past b e.op e.reply quiet is (overall_more n past e legal)
 
 quiet_passive : (w : Verdict) (op : Op) → is_quiet w op ≡ true → is_passive op ≡ true
 quiet_passive w (Op.SetVerdict v) h = refl
@@ -98,13 +98,13 @@ pub unchanged_wait : (past : List Entry) (e : Entry) (wake : Op) → IsWakeOf e.
 unchanged_wait past e wake h plain = unchanged_passive past e (waits_passive e.op wake h).0 plain
 
 pub wait_kept : (n : ℕ) (past : List Entry) (e : Entry) (wake : Op) → IsLegal n (e ∷ past) → IsWakeOf e.op wake → is_fault e.reply ≡ false → overall (e ∷ past) ≡ overall past
-wait_kept n past e wake legal h plain = overall_next n past e legal ∙ (waits_gain (overall past) e.op wake e.reply h plain).0
+wait_kept n past e wake legal h plain = overall_more n past e legal ∙ (waits_gain (overall past) e.op wake e.reply h plain).0
 
 pub unchanged_wake : (past : List Entry) (e : Entry) (wait : Op) → IsWakeOf wait e.op → is_fault e.reply ≡ false → ChangesNothing past e
 unchanged_wake past e wait h plain = unchanged_passive past e (waits_passive wait e.op h).1 plain
 
 pub wake_kept : (n : ℕ) (past : List Entry) (e : Entry) (wait : Op) → IsLegal n (e ∷ past) → IsWakeOf wait e.op → is_fault e.reply ≡ false → overall (e ∷ past) ≡ overall past
-wake_kept n past e wait legal h plain = overall_next n past e legal ∙ (waits_gain (overall past) wait e.op e.reply h plain).1
+wake_kept n past e wait legal h plain = overall_more n past e legal ∙ (waits_gain (overall past) wait e.op e.reply h plain).1
 
 -- ---- the other runs
 
@@ -131,6 +131,14 @@ followed_later scripts q r b s t keeps f = record { comp = f.comp; bound = f.bou
 pub quiet_alike : (n : ℕ) (q r : List Entry) → overall r ≡ overall q → IsAlike r q → KeepsQuiet n q r
 quiet_alike n q r same a b op h = record { quiet = rw (same, late_alike a op, met_alike a op) h.quiet; no_fault = fault_alike a n b op ∙ h.no_fault }
 
+-- one that q does not call is where it was
+pub followed_other : (scripts : List ScriptView) (p q : List Entry) (e : Entry) (b : ℕ) → IsCourse scripts (e ∷ q) → IsFollowed scripts q b (stand p b) (stand q b) → is_active q b ≡ true → (e.caller.0 == b) ≡ false →
+    IsFollowed scripts (e ∷ q) b (stand p b) (stand (e ∷ q) b)
+followed_other scripts p q e b cq fol act other =
+    let on = some_if q b act in
+    subst (λ t. IsFollowed scripts (e ∷ q) b (stand p b) t) (sym (stand_other q e b on.0 other (stand_comp scripts q b cq.1 ∙ on.1)))
+    (followed_later scripts q (e ∷ q) b (stand p b) (stand q b) (keeps_quiet (length scripts) q e (course_legal scripts (e ∷ q) cq)) fol)
+
 -- ---- a turn of one, or of both
 
 -- a turn of p, after which q is ahead, if its caller still is where q has it or before
@@ -144,9 +152,7 @@ stay scripts p q e cp cq f ahead made no_run own = record {
 }
   where
     by_test : (b : ℕ) → is_active q b ≡ true → (t : Bool) → (e.caller.0 == b) ≡ t → IsFollowed scripts q b (stand (e ∷ p) b) (stand q b)
-    by_test b act true k =
-        let same : e.caller.0 ≡ b = equal_if e.caller.0 b k in
-        subst (λ x. is_active q x ≡ true → IsFollowed scripts q x (stand (e ∷ p) x) (stand q x)) same own act
+    by_test b act true k = subst (λ x. is_active q x ≡ true → IsFollowed scripts q x (stand (e ∷ p) x) (stand q x)) (equal_if e.caller.0 b k) own act
     by_test b act false k =
         let on = some_if q b act in
         let fol = f.runs b act in
@@ -160,30 +166,22 @@ pub stutter : {aim : Verdict} (scripts : List ScriptView) (p q : List Entry) (e 
 stutter scripts p q e cp cq f u better leaves own =
     stay scripts p q e cp cq f (ahead_turn scripts p q e cp.1 (alike_unchanged (length scripts) p e (course_legal scripts (e ∷ p) cp) u) f.ahead leaves better) u.made u.no_run own
 
--- a turn of q that changes nothing
-pub lead : {aim : Verdict} (scripts : List ScriptView) (p q : List Entry) (e : Entry) → IsCourse scripts p → IsCourse scripts (e ∷ q) → IsFor aim scripts q p → IsAlike (e ∷ q) q →
-    (is_active q e.caller.0 ≡ true → IsFollowed scripts (e ∷ q) e.caller.0 (stand p e.caller.0) (stand (e ∷ q) e.caller.0)) → IsFor aim scripts (e ∷ q) p
-lead scripts p q e cp cq f after own = record {
-  ahead = ahead_after scripts p q (e ∷ q) f.ahead (alike_sym (e ∷ q) q after) keeps (overall_grows (length scripts) q e lq);
-  runs = λ b act. by_test b (sym (active_alike after b) ∙ act) (e.caller.0 == b) refl;
-  order = ⊎_elim inl (λ o. inr (order_alike scripts p q (e ∷ q) after o)) f.order;
-}
+-- a turn of q that starts nothing
+pub lead_by : {aim : Verdict} (scripts : List ScriptView) (p q : List Entry) (e : Entry) → IsCourse scripts (e ∷ q) → IsFor aim scripts q p → IsAhead aim scripts p (e ∷ q) → (level_of aim < level_of Verdict.Error) ⊎ AreOrdered scripts p (e ∷ q) →
+    ((b : ℕ) → is_active (e ∷ q) b ≡ true → is_active q b ≡ true) → (is_active (e ∷ q) e.caller.0 ≡ true → IsFollowed scripts (e ∷ q) e.caller.0 (stand p e.caller.0) (stand (e ∷ q) e.caller.0)) → IsFor aim scripts (e ∷ q) p
+lead_by scripts p q e cq f ahead order was own = record { ahead = ahead; runs = λ b act. by_test b act (e.caller.0 == b) refl; order = order }
   where
-    lq : IsLegal (length scripts) (e ∷ q)
-    lq = course_legal scripts (e ∷ q) cq
+    by_test : (b : ℕ) → is_active (e ∷ q) b ≡ true → (t : Bool) → (e.caller.0 == b) ≡ t → IsFollowed scripts (e ∷ q) b (stand p b) (stand (e ∷ q) b)
+    by_test b act true k = subst (λ x. is_active (e ∷ q) x ≡ true → IsFollowed scripts (e ∷ q) x (stand p x) (stand (e ∷ q) x)) (equal_if e.caller.0 b k) own act
+    by_test b act false k = followed_other scripts p q e b cq (f.runs b (was b act)) (was b act) k
 
-    keeps : KeepsQuiet (length scripts) q (e ∷ q)
-    keeps = keeps_quiet (length scripts) q e lq
-
-    by_test : (b : ℕ) → is_active q b ≡ true → (t : Bool) → (e.caller.0 == b) ≡ t → IsFollowed scripts (e ∷ q) b (stand p b) (stand (e ∷ q) b)
-    by_test b act true k =
-        let same : e.caller.0 ≡ b = equal_if e.caller.0 b k in
-        subst (λ x. is_active q x ≡ true → IsFollowed scripts (e ∷ q) x (stand p x) (stand (e ∷ q) x)) same own act
-    by_test b act false k =
-        let on = some_if q b act in
-        let here : (stand q b).comp ≡ Some on.0 = stand_comp scripts q b cq.1 ∙ on.1 in
-        subst (λ t. IsFollowed scripts (e ∷ q) b (stand p b) t) (sym (stand_other q e b on.0 k here))
-        (followed_later scripts q (e ∷ q) b (stand p b) (stand q b) keeps (f.runs b act))
+-- one that changes nothing
+pub lead : {aim : Verdict} (scripts : List ScriptView) (p q : List Entry) (e : Entry) → IsCourse scripts (e ∷ q) → IsFor aim scripts q p → IsAlike (e ∷ q) q →
+    IsFollowed scripts (e ∷ q) e.caller.0 (stand p e.caller.0) (stand (e ∷ q) e.caller.0) → IsFor aim scripts (e ∷ q) p
+lead scripts p q e cq f after own =
+    let lq = course_legal scripts (e ∷ q) cq in
+    lead_by scripts p q e cq f (ahead_after scripts p q (e ∷ q) f.ahead (alike_sym (e ∷ q) q after) (keeps_quiet (length scripts) q e lq) (overall_grows (length scripts) q e lq))
+    (⊎_elim inl (λ o. inr (order_alike scripts p q (e ∷ q) after o)) f.order) (λ b act. sym (active_alike after b) ∙ act) (λ act. own)
 
 -- a turn of both
 pub both : {aim : Verdict} (scripts : List ScriptView) (p q : List Entry) (d e : Entry) → IsCourse scripts (d ∷ p) → IsCourse scripts (e ∷ q) → IsFor aim scripts q p → d.caller.0 ≡ e.caller.0 →
@@ -202,12 +200,9 @@ both scripts p q d e cp cq f callers ahead keeps own fresh acts dies = record {
     by_comp b act k (Some c) on =
         let was : is_active q b ≡ true = and_left (is_active q b) _ (sym (halted_by_entry (length scripts) q e b c (course_legal scripts (e ∷ q) cq) on) ∙ act) in
         let fol = f.runs b was in
-        let here : (stand q b).comp ≡ Some c = stand_comp scripts q b cq.1 ∙ on in
-        let there : (stand p b).comp ≡ Some c = fol.comp ∙ here in
+        let there : (stand p b).comp ≡ Some c = fol.comp ∙ (stand_comp scripts q b cq.1 ∙ on) in
         let l : (d.caller.0 == b) ≡ false = ap (λ x. x == b) callers ∙ k in
-        subst (λ s. IsFollowed scripts (e ∷ q) b s (stand (e ∷ q) b)) (sym (stand_other p d b c l there))
-        (subst (λ t. IsFollowed scripts (e ∷ q) b (stand p b) t) (sym (stand_other q e b c k here))
-        (followed_later scripts q (e ∷ q) b (stand p b) (stand q b) keeps fol))
+        subst (λ s. IsFollowed scripts (e ∷ q) b s (stand (e ∷ q) b)) (sym (stand_other p d b c l there)) (followed_other scripts p q e b cq fol was k)
 
     by_test : (b : ℕ) → is_active (e ∷ q) b ≡ true → (t : Bool) → (e.caller.0 == b) ≡ t → IsFollowed scripts (e ∷ q) b (stand (d ∷ p) b) (stand (e ∷ q) b)
     by_test b act true k =

@@ -1,32 +1,23 @@
 -- When a state is closed, and when all are.
-use Rattle.std.proofs.{Common.{ℕ, ◌≡◌, ◌+◌, ◌<◌, ◌≤◌, ◌⊎◌, inl, inr, true, false, Some, List, [], length, reverse, slice_get, get_or, refl, ap, sym, subst, ◌∙◌, arith, append-nil}, lemmas.Option.{slice_get_within, slice_get-get_or}}
-use Rattle.tc_rules.specs.Prelude.{Entry, Case, past_of, is_over, is_active, Verdict, level_of}
+use Rattle.std.proofs.{Common.{ℕ, ◌≡◌, ◌+◌, ◌<◌, ◌≤◌, ◌⊎◌, inl, inr, true, Some, List, [], length, reverse, slice_get, get_or, refl, ap, sym, subst, ◌∙◌, arith, append-nil, ⊎_elim}, lemmas.Option.{slice_get_within, slice_get-get_or}}
+use Rattle.tc_rules.specs.Prelude.{Entry, Case, past_of, Verdict, level_of}
 use Rattle.tc_step.specs.Prelude.{ScriptView}
-use Rattle.tc_course.{specs.{declared.witness.Witness.Witness, Prelude.{is_found, stand, IsCourse}}, proofs.Lemmas.below_more}
-use Rattle.tc_explore.{specs.Inside.{Seen.{AllTold, AreClosed, IsClosedAt, IsLonger, IsRunClosed, IsSeen, IsState, StandsOn}, Simulation.{GoesOn, IsClosed, IsCovered, IsWithin}}, proofs.{Keeping.{active_stays, main_goes}, NextAim.closed_is_complete, Seeing.{closed_for_longer, covered_by, found_longer, get_more, seen_longer}}}
+use Rattle.tc_course.{specs.{declared.witness.Witness.Witness, Prelude.is_found}, proofs.Lemmas.below_more}
+use Rattle.tc_explore.{specs.Inside.{Seen.{AllTold, AreClosed, IsClosedAt, IsLonger, IsRunClosed, IsSeen, IsState, StandsOn}, Simulation.{GoesOn, IsClosed, IsCovered}}, proofs.{Keeping.{active_stays, main_goes}, NextAim.closed_is_complete, Seeing.{closed_for_longer, covered_by, found_longer, get_more, seen_longer}}}
 
-closed_by : {aim : Verdict} (scripts : List ScriptView) (states : List Case) (found : List Witness) (q : List Entry) → IsCourse scripts q → is_over q ≡ false → IsWithin aim q → is_active q 0 ≡ true → (stand q 0).left ≡ false →
-    ((b : ℕ) → b < length scripts → IsRunClosed aim scripts states found q b) → (is_found found Verdict.Error ≡ true) ⊎ (GoesOn scripts q ⊎ (level_of aim < level_of Verdict.Error)) → IsClosed aim scripts (IsSeen states) found q
-closed_by scripts states found q course going within main stays runs stuck = record {
-  course = course;
-  going = going;
-  within = within;
-  main = main;
-  main_stays = stays;
-  each = λ e near t on. runs e.caller.0 near e refl t on;
-  stuck = stuck;
-}
-
-closed_state : {aim : Verdict} (scripts : List ScriptView) (states : List Case) (found : List Witness) (t : Case) → IsState aim scripts t → ((b : ℕ) → b < length scripts → IsRunClosed aim scripts states found (past_of t) b) →
+pub closed_state : {aim : Verdict} (scripts : List ScriptView) (states : List Case) (found : List Witness) (t : Case) → IsState aim scripts t → ((b : ℕ) → b < length scripts → IsRunClosed aim scripts states found (past_of t) b) →
     (is_found found Verdict.Error ≡ true) ⊎ (GoesOn scripts (past_of t) ⊎ (level_of aim < level_of Verdict.Error)) → IsClosed aim scripts (IsSeen states) found (past_of t)
 closed_state scripts states found t s runs stuck =
     let main = main_goes scripts (past_of t) s.opened.on.course s.opened.going in
-    closed_by scripts states found (past_of t) s.opened.on.course s.opened.going s.within main (active_stays scripts (past_of t) 0 s.opened.on.course main) runs stuck
-
--- a run continues
-pub closed_going : {aim : Verdict} (scripts : List ScriptView) (states : List Case) (found : List Witness) (t : Case) → IsState aim scripts t → ((b : ℕ) → b < length scripts → IsRunClosed aim scripts states found (past_of t) b) →
-    GoesOn scripts (past_of t) → IsClosed aim scripts (IsSeen states) found (past_of t)
-closed_going scripts states found t s runs goes = closed_state scripts states found t s runs (inr (inl goes))
+    record {
+      course = s.opened.on.course;
+      going = s.opened.going;
+      within = s.within;
+      main = main;
+      main_stays = active_stays scripts (past_of t) 0 s.opened.on.course main;
+      each = λ e near turn on. runs e.caller.0 near e refl turn on;
+      stuck = stuck;
+    }
 
 -- none continues, and error is found
 pub closed_stuck : {aim : Verdict} (scripts : List ScriptView) (states : List Case) (before found : List Witness) (t : Case) → IsState aim scripts t → ((b : ℕ) → b < length scripts → IsRunClosed aim scripts states before (past_of t) b) →
@@ -35,17 +26,6 @@ closed_stuck scripts states before found t s runs more error =
     closed_state scripts states found t s
     (λ b near e own turn goes. closed_for_longer scripts states states before found (past_of t) e ([], sym (append-nil states)) more (runs b near e own turn goes))
     (inl error)
-
-pub closed_error : {aim : Verdict} (scripts : List ScriptView) (states : List Case) (found : List Witness) (t : Case) → IsState aim scripts t → ((b : ℕ) → b < length scripts → IsRunClosed aim scripts states found (past_of t) b) →
-    is_found found Verdict.Error ≡ true → IsClosed aim scripts (IsSeen states) found (past_of t)
-closed_error scripts states found t s runs error = closed_state scripts states found t s runs (inl error)
-
--- none continues, and error is worse than is looked for
-pub closed_better : {aim : Verdict} (scripts : List ScriptView) (states : List Case) (found : List Witness) (t : Case) → IsState aim scripts t → ((b : ℕ) → b < length scripts → IsRunClosed aim scripts states found (past_of t) b) →
-    level_of aim < level_of Verdict.Error → IsClosed aim scripts (IsSeen states) found (past_of t)
-closed_better scripts states found t s runs better = closed_state scripts states found t s runs (inr (inr better))
-
-pub ruleset state_rules = (closed_going, closed_stuck, closed_error, closed_better)
 
 -- ---- places
 
@@ -73,12 +53,8 @@ closed_longer {aim} scripts a b f g q states found c = record {
   main = c.main;
   main_stays = c.main_stays;
   each = λ e near t on. closed_for_longer scripts a b f g q e states found (c.each e near t on);
-  stuck = by_stuck c.stuck;
+  stuck = ⊎_elim (λ h. inl (found_longer f g Verdict.Error found h)) inr c.stuck;
 }
-  where
-    by_stuck : (is_found f Verdict.Error ≡ true) ⊎ (GoesOn scripts q ⊎ (level_of aim < level_of Verdict.Error)) → (is_found g Verdict.Error ≡ true) ⊎ (GoesOn scripts q ⊎ (level_of aim < level_of Verdict.Error))
-    by_stuck (inl h) = inl (found_longer f g Verdict.Error found h)
-    by_stuck (inr h) = inr h
 
 -- that many, and one more
 pub closed_ats_more : {aim : Verdict} (scripts : List ScriptView) (a b : List Case) (f g : List Witness) (n : ℕ) → IsLonger a b → IsLonger f g → n < length a → ((i : ℕ) → i < n → IsClosedAt aim scripts a f i) → IsClosedAt aim scripts b g n →

@@ -2,8 +2,8 @@
 use Rattle.std.{proofs.Common.{ℕ, ◌≡◌, ◌==◌, ◌≤◌, ◌⊎◌, inl, inr, not, if◌then◌else◌, Bool, true, false, Option, Some, None, List, [], ◌∷◌, length, refl, ap, sym, subst, ◌∙◌, arith}, specs.List.list_all}
 use Rattle.tc_rules.{specs.{Prelude.{Run, Verdict, Comp, Entry, Op, Phase, Fault, Reply, comps, comp_of, created, started_on, first_some, add_new, ends_case, ends_pass, is_over, phase, local_if_any, overall, gives, awaited, parks, waiting, waits_in_vain, is_still, is_stuck, fault, answer, plain_answer, wake_reply, local_reply, is_active, is_run_of, IsLegal}, declared.awaited.Awaited.Awaited}, proofs.Lemmas.{Deciding.{and_left, equal_if, self_equal}, Going.{halted_by_entry, last_on_it}}}
 use Rattle.tc_step.specs.Prelude.{ScriptView}
-use Rattle.tc_course.{specs.{Prelude.{CourseState, stand, next, after_own, after_other_by, turn, IsTurn, IsCourse}, Inside.{ends, wake_if}}, proofs.Lemmas.{course_legal, stand_own, stand_other, stand_comp, stand_unstarted, wake_after_other}}
-use Rattle.tc_explore.{specs.Inside.{Simulation.{IsAlike, is_quiet}, Twins.IsTwin}, proofs.{Alike.{active_alike, alike_sym, alike_unchanged, components_same, exists_same, fault_alike, holds_alike, local_next, phase_next}, Closing.{answer_fault, answer_inactive, answer_plain}, LastCalls.{local_kept, turn_by}, Parking.{active_if, alike_then, phase_running}, Simulation.{some_if, unchanged_ended, unchanged_quiet}}}
+use Rattle.tc_course.{specs.{Prelude.{CourseState, stand, next, after_own, turn, IsTurn, IsCourse}, Inside.{ends, wake_if}}, proofs.Lemmas.{course_legal, stand_own, stand_other, stand_comp, stand_unstarted}}
+use Rattle.tc_explore.{specs.Inside.{Simulation.{IsAlike, is_quiet}, Twins.IsTwin}, proofs.{Alike.{active_alike, alike_sym, alike_unchanged, components_same, exists_same, fault_alike, holds_alike, local_next, phase_next, all_same}, Closing.{answer_fault, answer_inactive}, LastCalls.{local_kept, turn_by}, Parking.{alike_then, phase_running}, Simulation.{some_if, unchanged_ended, unchanged_quiet}, Ahead.{answer_plain, active_if}, Places.wake_after}}
 
 -- ---- the relation
 
@@ -32,13 +32,11 @@ parks_by _ op = refl
 -- what a run waits for is the Wake to come
 waiting_is : (past : List Entry) (b : ℕ) → waiting past b ≡ awaited_by (stand past b).wake
 waiting_is [] b = refl
-waiting_is (e ∷ past) b = by_test (waiting_is past b) (e.caller.0 == b) refl
+waiting_is (e ∷ past) b = by_test (e.caller.0 == b) (waiting_is past b) ∙ ap awaited_by (sym (wake_after past e b))
   where
-    by_test : waiting past b ≡ awaited_by (stand past b).wake → (t : Bool) → (e.caller.0 == b) ≡ t → (if t then parks e.op e.reply else waiting past b) ≡ awaited_by (stand (e ∷ past) b).wake
-    by_test before true k = parks_by e.reply e.op ∙ ap (λ (s : CourseState). awaited_by s.wake) (sym (stand_own past e b (equal_if e.caller.0 b k)))
-    by_test before false k =
-        let other : stand (e ∷ past) b ≡ after_other_by (stand past b).comp e b (stand past b) = rw k refl in
-        before ∙ ap awaited_by (sym (ap (λ (s : CourseState). s.wake) other ∙ wake_after_other (stand past b).comp (started_on e b) e b (stand past b) refl))
+    by_test : (t : Bool) → waiting past b ≡ awaited_by (stand past b).wake → (if t then parks e.op e.reply else waiting past b) ≡ awaited_by (if t then wake_if e.op e.reply else (stand past b).wake)
+    by_test true before = parks_by e.reply e.op
+    by_test false before = before
 
 module _ (scripts : List ScriptView) (q p : List Entry) (some : 1 ≤ length scripts) (cq : IsCourse scripts q) (t : IsTwin q p) where
   vain_twin : (b : ℕ) → is_active q b ≡ true → waits_in_vain q (waiting q b) ≡ waits_in_vain p (waiting p b)
@@ -54,14 +52,10 @@ module _ (scripts : List ScriptView) (q p : List Entry) (some : 1 ≤ length scr
       vain_twin r.0 (active_if q r.0 (record { 0 = c }) on.0 (ap (is_run_of r.0) k ∙ self_equal r.0))
   still_twin c _ k = refl
 
-  all_same_at : (f g : ℕ → Bool) (xs : List ℕ) → ((x : ℕ) → f x ≡ g x) → list_all f xs ≡ list_all g xs
-  all_same_at f g [] h = refl
-  all_same_at f g (x ∷ xs) h = rw (h x, all_same_at f g xs h)
-
   stuck_twin : is_stuck q ≡ is_stuck p
   unfolding is_stuck
   stuck_twin =
-      all_same_at (λ c. is_still q (phase q c)) (λ c. is_still p (phase p c)) (comps q) (λ c. still_twin c (phase q c) refl ∙ ap (is_still p) (t.alike.phase_same c))
+      all_same (λ c. is_still q (phase q c)) (λ c. is_still p (phase p c)) (comps q) (λ c. still_twin c (phase q c) refl ∙ ap (is_still p) (t.alike.phase_same c))
       ∙ ap (list_all (λ c. is_still p (phase p c))) t.alike.comps_same
 
 -- ---- replies

@@ -5,7 +5,7 @@ ghost use Rattle.tc_rules.specs.Prelude.{past_of, is_over};
 ghost use Rattle.tc_course.specs.Prelude.{IsComplete, IsOn};
 ghost use Rattle.tc_explore.specs.{Found.AreLocals, Inside.Twins.HasLocal, Inside.Twins.HasLocals, Inside.Twins.IsMarked, Inside.Twins.IsMore};
 
-use crate::turns::step_all;
+use crate::findings::step_all;
 use std::alloc::Global;
 use tc_course::{Course, level};
 use tc_entry::{Comp, Entry, Name};

@@ -10,8 +10,7 @@ ghost use Rattle.tc_explore.specs.Inside.Simulation as moves;
 
 use crate::calls::Kept;
 use crate::calm::calmed;
-use crate::findings::{Findings, reach};
-use crate::noted::{note, with_stuck};
+use crate::findings::{Findings, note, reach, with_stuck};
 use crate::state_keys::state_key;
 use crate::straight::call_on;
 use indexmap::IndexSet;
@@ -137,7 +136,7 @@ fn after_call<'a>(
     }
     let calm = calmed(aim, next, scripts)?;
     reach(&mut found.reached, scripts, &calm);
-    let key = state_key(&calm, alloc, scripts.len() as u16)?;
+    let key = state_key(&calm, alloc, scripts.len() as u16, false)?;
     let is_seen = place(alloc, scripts, &calm, key, met)?;
     Ok(is_seen)
 }
@@ -228,7 +227,7 @@ fn try_runs<'a>(
 
 // Looks at the state of a course: makes the next call of each run, or ends the case if none continues and error is looked
 // for. It returns whether what comes after the state is seen, or found. It is, unless as many states as the limit are met.
-#[tactic(auto, using(crate::proofs::States::state_rules, crate::proofs::Closed::runs_rules, crate::proofs::Seeing::seeing_rules, crate::proofs::Keeping::keeping_rules, crate::proofs::Parking::held_if, crate::proofs::Kept::kept_rules))]
+#[tactic(auto, using(crate::proofs::Closed::runs_rules, crate::proofs::Seeing::seeing_rules, crate::proofs::Keeping::keeping_rules, crate::proofs::Parking::held_if, crate::proofs::Kept::kept_rules))]
 fn expand_course<'a>(
     aim: Verdict,
     alloc: Global,
@@ -337,7 +336,7 @@ pub(crate) fn search_all(
     let opening = Course::opening(alloc, scripts.len() as u16)?;
     let calm = calmed(aim, opening, scripts)?;
     reach(&mut found.reached, scripts, &calm);
-    let key = state_key(&calm, alloc, scripts.len() as u16)?;
+    let key = state_key(&calm, alloc, scripts.len() as u16, false)?;
     let is_placed = place(alloc, scripts, &calm, key, &mut met)?;
     let is_closed = expand_all(aim, alloc, scripts, &mut met, found)?;
     Ok(extent_of(met.keys.len(), is_placed, is_closed))

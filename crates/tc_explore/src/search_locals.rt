@@ -6,7 +6,7 @@ ghost use Rattle.tc_explore.specs.{Found.AllLocalsFound, Found.AreLocals, Found.
 
 use crate::marks::Marks;
 use crate::search::{Extent, Met, extent_of, place, with_call};
-use crate::state_keys::state_key_with_locals;
+use crate::state_keys::state_key;
 use indexmap::IndexSet;
 use std::alloc::Global;
 use tc_course::{Course, next_call};
@@ -49,7 +49,7 @@ fn try_run<'a>(
         marks.note(scripts, next)?;
         return Ok(true);
     }
-    let key = state_key_with_locals(&next, alloc, scripts.len() as u16)?;
+    let key = state_key(&next, alloc, scripts.len() as u16, true)?;
     let is_seen = place(alloc, scripts, &next, key, met)?;
     Ok(is_seen)
 }
@@ -139,7 +139,7 @@ pub(crate) fn search_locals(
         limit,
     };
     let opening = Course::opening(alloc, scripts.len() as u16)?;
-    let key = state_key_with_locals(&opening, alloc, scripts.len() as u16)?;
+    let key = state_key(&opening, alloc, scripts.len() as u16, true)?;
     let is_placed = place(alloc, scripts, &opening, key, &mut met)?;
     let is_closed = expand_all(alloc, scripts, &mut met, marks)?;
     Ok(extent_of(met.keys.len(), is_placed, is_closed))

@@ -3,7 +3,7 @@ ghost use Rattle.std.specs.Prelude.{◌≡◌, ◌++◌, ◌∷◌, [], IfOk, On
 ghost use Rattle.std.specs.List.{flat_map, range_with_len};
 ghost use Rattle.tc_rules.specs.Prelude.{past_of};
 ghost use Rattle.tc_rules.specs.Faults as faults;
-ghost use Rattle.tc_explore.specs.Inside.Twins.{comp_code, comp_key, key_of, number_of, phase_code, run_key, run_key_of, local_code, local_key, target_key, twin_key, wake_key, wake_key_of};
+ghost use Rattle.tc_explore.specs.Inside.Twins.{comp_code, comp_key, key_of, number_of, phase_code, run_key, run_key_of, local_code, target_key, wake_key};
 
 use std::alloc::Global;
 use tc_course::{Course, Standing, level};
@@ -73,9 +73,19 @@ fn add_numbers(key: &mut Vec<u64>, comps: &[Comp]) -> Result<(), NoMemory>
     Ok(())
 }
 
-// Adds what a run can still call depends on, as numbers; of one that is halted its component.
-fn add_run(key: &mut Vec<u64>, known: &Standing, goes_on: bool) -> Result<(), NoMemory>
-    ensures { OnOk result (key.new.items ≡ key.old.items ++ run_key goes_on known.now) }
+// Adds what a run waits for.
+fn add_wake(key: &mut Vec<u64>, known: &Standing) -> Result<(), NoMemory>
+    ensures { OnOk result (key.new.items ≡ key.old.items ++ wake_key known.now.wake) }
+{
+    match known.wake() {
+        Some(Op::Wake { killed, target }) => add_target(key, *killed, *target),
+        _ => add_pair(key, 0, 0),
+    }
+}
+
+// Adds what a run can still call depends on, as numbers, and maybe what it waits for; of one that is halted its component.
+fn add_run(key: &mut Vec<u64>, known: &Standing, goes_on: bool, waits: bool) -> Result<(), NoMemory>
+    ensures { OnOk result (key.new.items ≡ key.old.items ++ run_key waits goes_on known.now) }
 {
     key.push(comp_number(known.comp()))?;
     if !goes_on {
@@ -85,98 +95,69 @@ fn add_run(key: &mut Vec<u64>, known: &Standing, goes_on: bool) -> Result<(), No
     key.push(1)?;
     key.push(known.called() as u64)?;
     key.push(known.bound().len() as u64)?;
-    add_numbers(key, known.bound())
+    add_numbers(key, known.bound())?;
+    if !waits {
+        return Ok(());
+    }
+    add_wake(key, known)
 }
 
-// Adds what a run that continues waits for, as numbers.
-fn add_wake(key: &mut Vec<u64>, known: &Standing, goes_on: bool) -> Result<(), NoMemory>
-    ensures { OnOk result (key.new.items ≡ key.old.items ++ wake_key goes_on known.now.wake) }
+// Adds what a component does, its kind, and maybe its local verdict.
+fn add_component(
+    course: &Course,
+    key: &mut Vec<u64>,
+    comp: u32,
+    local: bool,
+) -> Result<(), NoMemory>
+    ensures { OnOk result (key.new.items ≡ key.old.items ++ comp_key local (past_of course.now) comp) }
 {
-    if !goes_on {
-        return add_pair(key, 0, 0);
+    key.push(phase_number(course.phase_of(Comp(comp))))?;
+    key.push(u64::from(course.is_alive_type(comp)))?;
+    if !local {
+        return Ok(());
     }
-    match known.wake() {
-        Some(Op::Wake { killed, target }) => add_target(key, *killed, *target),
-        _ => add_pair(key, 0, 0),
-    }
+    key.push(local_number(course.local(comp)))?;
+    Ok(())
 }
 
-// Adds what each component does, and its kind.
-fn add_components(course: &Course, key: &mut Vec<u64>) -> Result<(), NoMemory>
+// Adds each component.
+fn add_components(course: &Course, key: &mut Vec<u64>, locals: bool) -> Result<(), NoMemory>
     ensures { OnOk result (key.new.items ≡ key.old.items
-        ++ flat_map (comp_key (past_of course.now)) (range_with_len 0 (faults.components (past_of course.now)))) }
+        ++ flat_map (comp_key locals (past_of course.now)) (range_with_len 0 (faults.components (past_of course.now)))) }
 {
     for comp in 0..course.components() {
-        key.push(phase_number(course.phase_of(Comp(comp))))?;
-        key.push(u64::from(course.is_alive_type(comp)))?;
+        add_component(course, key, comp, locals)?;
     }
     Ok(())
 }
 
-// Adds what each of n runs can still call depends on.
-fn add_runs(course: &Course, key: &mut Vec<u64>, n: u16) -> Result<(), NoMemory>
+// Adds each of n runs.
+fn add_runs(course: &Course, key: &mut Vec<u64>, n: u16, waits: bool) -> Result<(), NoMemory>
     requires { n ≡ course.now.behaviours }
-    ensures { OnOk result (key.new.items ≡ key.old.items ++ flat_map (run_key_of (past_of course.now)) (range_with_len 0 n)) }
+    ensures { OnOk result (key.new.items ≡ key.old.items ++ flat_map (run_key_of waits (past_of course.now)) (range_with_len 0 n)) }
 {
     for run in 0..n {
         let goes_on = course.is_active(Run(run));
-        add_run(key, course.known(Run(run)), goes_on)?;
+        add_run(key, course.known(Run(run)), goes_on, waits)?;
     }
     Ok(())
 }
 
-/// All that what can still come in a case of n behaviours depends on, as numbers.
+/// All that what can still come in a case of n behaviours depends on, as numbers; local verdicts and waits count, or not.
 #[tactic(auto, unfolding(crate::specs::Inside::Twins::key_of))]
-pub(crate) fn state_key(course: &Course, alloc: Global, n: u16) -> Result<Vec<u64>, NoMemory>
+pub(crate) fn state_key(
+    course: &Course,
+    alloc: Global,
+    n: u16,
+    all: bool,
+) -> Result<Vec<u64>, NoMemory>
     requires { n ≡ course.now.behaviours }
-    ensures { IfOk result (λ key. key.items ≡ key_of n (past_of course.now)) }
+    ensures { IfOk result (λ key. key.items ≡ key_of all n (past_of course.now)) }
 {
     let mut key = Vec::new(alloc);
     key.push(level(course.verdict()))?;
     key.push(u64::from(course.components()))?;
-    add_components(course, &mut key)?;
-    add_runs(course, &mut key, n)?;
-    Ok(key)
-}
-
-// Adds the local verdict of each component.
-fn add_locals(course: &Course, key: &mut Vec<u64>) -> Result<(), NoMemory>
-    ensures { OnOk result (key.new.items ≡ key.old.items
-        ++ flat_map (local_key (past_of course.now)) (range_with_len 0 (faults.components (past_of course.now)))) }
-{
-    for comp in 0..course.components() {
-        key.push(local_number(course.local(comp)))?;
-    }
-    Ok(())
-}
-
-// Adds what each of n runs waits for.
-fn add_wakes(course: &Course, key: &mut Vec<u64>, n: u16) -> Result<(), NoMemory>
-    requires { n ≡ course.now.behaviours }
-    ensures { OnOk result (key.new.items ≡ key.old.items ++ flat_map (wake_key_of (past_of course.now)) (range_with_len 0 n)) }
-{
-    for run in 0..n {
-        let goes_on = course.is_active(Run(run));
-        add_wake(key, course.known(Run(run)), goes_on)?;
-    }
-    Ok(())
-}
-
-/// All that what can still come depends on, local verdicts included, as numbers.
-#[tactic(auto, unfolding(crate::specs::Inside::Twins::twin_key))]
-pub(crate) fn state_key_with_locals(
-    course: &Course,
-    alloc: Global,
-    n: u16,
-) -> Result<Vec<u64>, NoMemory>
-    requires { n ≡ course.now.behaviours }
-    ensures { IfOk result (λ key. key.items ≡ twin_key n (past_of course.now)) }
-{
-    let rest = state_key(course, alloc, n)?;
-    let mut key = Vec::new(alloc);
-    key.push(u64::from(course.components()))?;
-    add_locals(course, &mut key)?;
-    add_wakes(course, &mut key, n)?;
-    key.extend_from_slice(rest.as_slice())?;
+    add_components(course, &mut key, all)?;
+    add_runs(course, &mut key, n, all)?;
     Ok(key)
 }

@@ -6,8 +6,7 @@ ghost use Rattle.tc_course.specs.Prelude.{IsNext, IsOn, goes_on};
 ghost use Rattle.tc_explore.specs.Inside.Seen.{AreHeld, IsHeldAt, IsNoLess, IsNoted};
 ghost use Rattle.tc_explore.specs.Inside.Seen as seen;
 
-use crate::findings::Findings;
-use crate::noted::{note, with_stuck};
+use crate::findings::{Findings, note, with_stuck};
 use std::alloc::Global;
 use tc_course::{Course, has_gone_on, next_call};
 use tc_entry::Op;

@@ -40,16 +40,12 @@ explored_line name e =
 abbrev pub witnesses_text : Header → List (List ℕ) → Explored → List ℕ
 witnesses_text h names e = flat_map (λ w. named_block h names w.history w.verdict) e.found
 
--- verdicts, with `or` between them
-abbrev pub or_text : List Verdict → List ℕ
-or_text verdicts = drop 3 (flat_map (λ v. codes " or " ++ name_of v) verdicts)
-
--- a component, and the verdicts that it is found with, from the best to the worst, if these are more than one
+-- a component, and the verdicts that it is found with, from the best to the worst, with `or` between them, if these are more than one
 unfoldable pub local_line : Locals → ℕ → List ℕ
 local_line l c =
     let verdicts = verdicts_where (is_local l.found c) in
     if nat_lt 1 (length verdicts)
-    then shown_line (codes " local " ++ (component_text c (slice_index_or l.names c None) ++ (codes ":" ++ or_text verdicts)))
+    then shown_line (codes " local " ++ (component_text c (slice_index_or l.names c None) ++ (codes ":" ++ drop 3 (flat_map (λ v. codes " or " ++ name_of v) verdicts))))
     else []
 
 -- all that is printed; of a search that met its limit how many states it looked at

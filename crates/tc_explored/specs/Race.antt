@@ -15,10 +15,6 @@ plain_call e = named_call no_names e.op e.reply
 abbrev pub is_alike : Entry → Entry → Bool
 is_alike x y = (x.caller.0 == y.caller.0) && bytes_eq (plain_call x) (plain_call y)
 
--- how many entries two lists have alike in front
-abbrev pub alike_count : List Entry → List Entry → ℕ
-alike_count left right = common_prefix_len is_alike left right
-
 -- a line of two columns, of which the left one has 36 letters or more
 abbrev pub row : List ℕ → List ℕ → List ℕ
 row left right = shown_line (32 ∷ (left ++ (drop (length left) (codes "                                    ") ++ (codes " |" ++ (32 ∷ right)))))
@@ -49,7 +45,7 @@ abbrev pub difference : List Entry → List Entry → ℕ → Option Difference
 difference left right b =
     let one = calls left b in
     let other = calls right b in
-    let at = alike_count one other in
+    let at = common_prefix_len is_alike one other in
     if nat_lt at (length one) || nat_lt at (length other)
     then Some (record { run = b; call = at + 1; left = slice_get one at; right = slice_get other at })
     else None
@@ -66,13 +62,10 @@ end_before history b call = if option_map_or (λ e. is_ended e.reply) call false
 abbrev pub before_text : List ℕ → Option Entry → List ℕ
 before_text words end = option_map_or (λ e. words ++ entry_text e) end []
 
--- which call of which run it is
-unfoldable pub which_call : Names → ℕ → ℕ → List ℕ
-which_call names b k = codes " run " ++ (run_in names b ++ (codes ": call " ++ (decimal k ++ codes ": ")))
-
--- where the calls of a run differ in two histories with these names
+-- where the calls of a run differ in two histories with these names: which call of which run it is, and the call of each
 unfoldable pub sides_text : Names → Names → Difference → List ℕ
-sides_text left right d = which_call left d.run d.call ++ (side_text left d.left ++ (codes " | " ++ side_text right d.right))
+sides_text left right d =
+    codes " run " ++ (run_in left d.run ++ (codes ": call " ++ (decimal d.call ++ (codes ": " ++ (side_text left d.left ++ (codes " | " ++ side_text right d.right))))))
 
 -- the line that says so, with what ended the run before it on each side
 abbrev pub parting_line : List (List ℕ) → List Entry → List Entry → Difference → List ℕ
@@ -93,7 +86,7 @@ alike_line v w count =
 -- than twelve entries after that, otherwise side by side
 abbrev pub race : List (List ℕ) → ℕ → Witness → Witness → List ℕ
 race names n v w =
-    let count = alike_count v.history w.history in
+    let count = common_prefix_len is_alike v.history w.history in
     let left = drop count v.history in
     let right = drop count w.history in
     alike_line v w count

@@ -1,24 +1,100 @@
 //! What the details say of a test case that was explored.
-ghost use Rattle.std.specs.{Prelude.{◌≡◌, ◌≤◌, ◌++◌, ◌∷◌, All, OnOk, codes, length, reverse}, List.flat_map};
+ghost use Rattle.std.specs.{Prelude.{◌≡◌, ◌==◌, ◌≤◌, ◌++◌, ◌∷◌, All, IfOk, OnOk, codes, flat_map, length, reverse}, List.range_with_len};
 ghost use Rattle.tc_entry.specs.declared.limits.TheConstants.{BEHAVIOURS};
 ghost use Rattle.tc_course.specs.Prelude.{AreLegal};
 ghost use Rattle.tc_report.specs.Prelude.{decided_text, waits_text};
-ghost use Rattle.tc_rules.specs.Prelude.{IsLegal, name_of as verdict_name};
+ghost use Rattle.tc_rules.specs.Prelude.{components, IsLegal, StandsFor, name_of as verdict_name};
 ghost use Rattle.tc_text.specs.Prelude.{shown_line};
 ghost use Rattle.tc_explored.specs.Details as spec;
 
-use crate::components::append_locals_line;
 use crate::race::append_races;
 use crate::unseen::append_unseen;
 use std::alloc::Global;
 use tc_course::{Ending, Explored, Witness};
-use tc_entry::Name;
+use tc_entry::{Comp, Entry, Name};
 use tc_report::{
-    CaseEnd, Cause, Names, append_decision, append_waits, cause_of, names_in, namings_of,
+    CaseEnd, Cause, Names, append_component_in, append_decision, append_waits, cause_of, names_in,
+    namings_of,
 };
+use tc_rules::{CaseState, CheckFault, replay};
 use tc_step::Script;
-use tc_text::append_shown;
+use tc_text::{append_shown, append_text};
 use tc_verdict::{NoMemory, Verdict, name as name_of};
+
+// The state of a case after these entries.
+fn state_after(alloc: Global, behaviours: u16, entries: &[Entry]) -> Result<CaseState, NoMemory>
+    requires some { 1 ≤ behaviours }
+    requires few { behaviours ≤ BEHAVIOURS }
+    requires legal { IsLegal behaviours (reverse entries.now) }
+    ensures { IfOk result (λ s. StandsFor s (reverse entries.now)) }
+{
+    match replay(alloc, behaviours, entries) {
+        Ok(state) => Ok(state),
+        Err(CheckFault::NoMemory) => Err(NoMemory),
+        Err(CheckFault::Differs { .. }) => unreachable!(),
+    }
+}
+
+// Appends a component and its local verdict, in the state at the end of the history; if memory runs out, a part of it.
+fn append_local(
+    out: &mut Vec<u8>,
+    names: &Names,
+    history: &[Entry],
+    state: &CaseState,
+    comp: u32,
+) -> Result<(), NoMemory>
+    requires { StandsFor state.now (reverse history.now) }
+    ensures { OnOk result (out.new.items ≡ out.old.items ++ spec.local_words names.now history.now comp) }
+{
+    append_text(out, if comp == 0 { ": " } else { ", " })?;
+    append_component_in(out, names, Comp(comp))?;
+    let Some(verdict) = state.local(Comp(comp)) else {
+        return Ok(());
+    };
+    append_text(out, " ")?;
+    append_text(out, name_of(verdict))
+}
+
+// Appends the components with their local verdicts, in the state at the end of the history; if memory runs out, a part
+// of them.
+#[tactic(auto, using(tc_course::proofs::Lemmas::next_of))]
+fn append_locals(
+    out: &mut Vec<u8>,
+    names: &Names,
+    history: &[Entry],
+    state: &CaseState,
+) -> Result<(), NoMemory>
+    requires { StandsFor state.now (reverse history.now) }
+    ensures { OnOk result (out.new.items ≡ out.old.items
+        ++ flat_map (spec.local_words names.now history.now) (range_with_len 0 (components (reverse history.now)))) }
+{
+    for comp in 0..state.components() {
+        append_local(out, names, history, state, comp)?;
+    }
+    Ok(())
+}
+
+// Appends the line of a witness with these names: its verdict, and the local verdict of each component at its end. If
+// memory runs out, a part of it.
+#[tactic(auto, unfolding(crate::specs::Details::locals))]
+fn append_locals_line(
+    out: &mut Vec<u8>,
+    names: &Names,
+    behaviours: u16,
+    witness: &Witness,
+) -> Result<(), NoMemory>
+    requires some { 1 ≤ behaviours }
+    requires few { behaviours ≤ BEHAVIOURS }
+    requires legal { IsLegal behaviours (reverse witness.now.history) }
+    ensures { OnOk result (out.new.items ≡ out.old.items ++ spec.locals names.now witness.now) }
+{
+    let alloc = *out.allocator();
+    let history = witness.history.as_slice();
+    let state = state_after(alloc, behaviours, history)?;
+    let mut text = format!(in alloc; " {}", name_of(witness.verdict))?.into_bytes();
+    append_locals(&mut text, names, history, &state)?;
+    append_shown(alloc, out, text.as_slice())
+}
 
 fn append_decided_line(
     out: &mut Vec<u8>,

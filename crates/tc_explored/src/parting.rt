@@ -116,22 +116,11 @@ fn append_side(out: &mut Vec<u8>, names: &Names, call: &Option<Entry>) -> Result
 fn append_before(out: &mut Vec<u8>, words: &str, end: Option<&Entry>) -> Result<(), NoMemory>
     ensures { OnOk result (out.new.items ≡ out.old.items ++ spec.before_text words.now (option_copied end.entry)) }
 {
-    let Some(entry) = end else {
-        return Ok(());
-    };
-    append_text(out, words)?;
-    append_entry(out, entry)
-}
-
-#[tactic(auto, unfolding(crate::specs::Race::which_call))]
-fn append_which(out: &mut Vec<u8>, names: &Names, run: u16, call: usize) -> Result<(), NoMemory>
-    ensures { OnOk result (out.new.items ≡ out.old.items ++ spec.which_call names.now run call) }
-{
-    append_text(out, " run ")?;
-    append_run_in(out, names, Run(run))?;
-    append_text(out, ": call ")?;
-    append_number(out, call as u64)?;
-    append_text(out, ": ")
+    if let Some(entry) = end {
+        append_text(out, words)?;
+        append_entry(out, entry)?;
+    }
+    Ok(())
 }
 
 // Appends where the calls of a run differ in two histories with these names.
@@ -144,7 +133,11 @@ fn append_sides(
 ) -> Result<(), NoMemory>
     ensures { OnOk result (out.new.items ≡ out.old.items ++ spec.sides_text left.now right.now difference.now) }
 {
-    append_which(out, left, difference.run, difference.call)?;
+    append_text(out, " run ")?;
+    append_run_in(out, left, Run(difference.run))?;
+    append_text(out, ": call ")?;
+    append_number(out, difference.call as u64)?;
+    append_text(out, ": ")?;
     append_side(out, left, &difference.left)?;
     append_text(out, " | ")?;
     append_side(out, right, &difference.right)

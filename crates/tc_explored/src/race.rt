@@ -1,5 +1,5 @@
 //! Two witnesses from where they part: side by side, or run by run.
-ghost use Rattle.std.specs.Prelude.{◌≡◌, ◌≤◌, ◌++◌, IfOk, OnOk, codes, drop, length};
+ghost use Rattle.std.specs.{Prelude.{◌≡◌, ◌≤◌, ◌++◌, IfOk, OnOk, codes, drop, length}, List.common_prefix_len};
 ghost use Rattle.tc_blocks.specs.Prelude.{entry_text};
 ghost use Rattle.tc_explored.specs.Race as spec;
 
@@ -46,7 +46,7 @@ fn is_alike(alloc: Global, left: &Entry, right: &Entry) -> Result<bool, NoMemory
 
 /// How many entries two lists have alike in front.
 pub(crate) fn alike_count(alloc: Global, left: &[Entry], right: &[Entry]) -> Result<usize, NoMemory>
-    ensures is { IfOk result (λ count. count ≡ spec.alike_count left.now right.now) }
+    ensures is { IfOk result (λ count. count ≡ common_prefix_len spec.is_alike left.now right.now) }
     ensures within { IfOk result (λ count. count ≤ length left.now) }
     ensures within_other { IfOk result (λ count. count ≤ length right.now) }
 {

@@ -1,5 +1,5 @@
 -- Blocks next to the test cases of their script: what is kept of them while they are taken in.
-use Rattle.std.{proofs.{Common.{ℕ, zero, suc, ◌≡◌, ◌∙◌, ◌+◌, ◌<◌, ◌≤◌, ◌||◌, ◌==◌, not, nat_lt, Bool, true, false, Option, Some, None, List, [], ◌∷◌, ◌++◌, drop, if◌then◌else◌, map, length, get_or, replicate, reverse, take, slice_get, slice_index_or, slice_set, get_or-set_same, refl, sym, ap, ap₂, subst, arith}, lemmas.{Bool.Decides.nat_tests, Grind.elements, List.{Quantifiers.position-Some, append-nil, drop_more, map-append, reverse-append, take-append-drop, take_all, take_more}}}, specs.{Cmp.Lexicographic.bytes_decides, List.{AllZip, list_any, position_or_len}, Option.option_map_or}}
+use Rattle.std.{proofs.{Math.Bool.or-true, Common.{ℕ, zero, suc, ◌≡◌, ◌∙◌, ◌+◌, ◌<◌, ◌≤◌, ◌||◌, ◌==◌, not, nat_lt, Bool, true, false, Option, Some, None, List, [], ◌∷◌, ◌++◌, drop, if◌then◌else◌, map, length, get_or, replicate, reverse, take, slice_get, slice_index_or, slice_set, get_or-set_same, refl, sym, ap, ap₂, subst, arith}, lemmas.{Bool.Decides.nat_tests, Grind.elements, List.{Quantifiers.position-Some, append-nil, drop_more, map-append, reverse-append, take-append-drop, take_all, take_more}}}, specs.{Cmp.Lexicographic.bytes_decides, List.{AllZip, list_any, position_or_len}, Option.option_map_or}}
 use Rattle.tc_blocks.specs.declared.block.Block.{Block}
 use Rattle.tc_reader.specs.Prelude.{is_text, CampaignView, Word, add, among, has_twice}
 use Rattle.tc_step.specs.Prelude.{ScriptView}
@@ -13,10 +13,6 @@ use Rattle.tc_judge.{specs.{Check.RefusesHistory, Compared.{AreJudged, RefusesAg
 alike : (a b : Word) → a ≡ b → is_text a b ≡ true
 unfolding is_text
 alike a b e = (bytes_decides a b).1 e
-
-or_true : (a : Bool) → (a || true) ≡ true
-or_true true = refl
-or_true false = refl
 
 -- ---- test cases by name
 
@@ -38,7 +34,7 @@ among_at [] n q c at e = absurd cc
 among_at (t ∷ ts) n zero c at e =
     let is : t ≡ c = cc in
     ap (λ b. b || list_any (is_text n) (map (λ t. t.0) ts)) (alike n t.0 (e ∙ ap (λ x. x.0) (sym is)))
-among_at (t ∷ ts) n (suc q) c at e = ap (λ b. is_text n t.0 || b) (among_at ts n q c at e) ∙ or_true (is_text n t.0)
+among_at (t ∷ ts) n (suc q) c at e = ap (λ b. is_text n t.0 || b) (among_at ts n q c at e) ∙ or-true (is_text n t.0)
 
 -- a name without a place is that of no test case
 pub unplaced : (cases : CampaignView) (n : Word) (q : ℕ) (c : CaseView) → place_in cases n ≡ None → slice_get cases q ≡ Some c → is_text c.0 n ≡ false
@@ -111,7 +107,7 @@ met_late cases (b ∷ bs) n p q e met less = by (λ m. met_late cases bs n p q e
         let here : place_in cases b.header.name ≡ Some p = ap (place_in cases) (sym (same_word n b.header.name k)) ∙ e in
         let test : nat_lt q p ≡ true = grind (arith, nat_tests) in
         rw (here, test) refl
-    by more false k m = ap (λ x. is_before q (place_in cases b.header.name) || x) (more m) ∙ or_true (is_before q (place_in cases b.header.name))
+    by more false k m = ap (λ x. is_before q (place_in cases b.header.name) || x) (more m) ∙ or-true (is_before q (place_in cases b.header.name))
 
 -- ---- one more block
 
@@ -157,50 +153,43 @@ beside_twice cases before b c p e was s = (met, record { names = s.names; ready 
     by_place q true k = let less : q < p = grind (arith, nat_tests) in let late = met_late cases before b.header.name p q e met less in rw (e, k) (sym late ∙ s.next q)
     by_place q false k = rw (e, k) (s.next q)
 
+-- a block of a test case that was not met, by what the next place is after it
+beside_met : (cases : CampaignView) (before : List Block) (b : Block) (c after : Comparing) (p : ℕ) → has_twice (map (λ t. t.0) cases) ≡ false →
+    place_in cases b.header.name ≡ Some p → p < length c.met.items → after.names ≡ c.names → after.ready ≡ c.ready → after.met.items ≡ slice_set c.met.items p true →
+    ((q : ℕ) → (nat_lt q p || nat_lt (q + 1) c.next) ≡ nat_lt (q + 1) after.next) → StandsBeside cases before c → StandsBeside cases (b ∷ before) after
+beside_met cases before b c after p distinct e within names ready met next s = record {
+  names = ap (λ x. x.keys) names ∙ s.names;
+  ready = subst (λ x. AllZip IsCaseOf cases x.items) (sym ready) s.ready;
+  met = λ q t at. ap (λ x. slice_index_or x q false) met ∙ met_more cases before b c.met.items p q t distinct e within at (s.met q t at);
+  next = λ q. rw e (ap (λ x. nat_lt q p || x) (s.next q) ∙ next q);
+}
+
 -- a block of a test case before the last one that was met
 pub beside_late : (cases : CampaignView) (before : List Block) (b : Block) (c after : Comparing) (p : ℕ) → has_twice (map (λ t. t.0) cases) ≡ false →
     place_in cases b.header.name ≡ Some p → p < length c.met.items → after.names ≡ c.names → after.ready ≡ c.ready → after.met.items ≡ slice_set c.met.items p true →
     after.next ≡ c.next → p + 1 < c.next → StandsBeside cases before c → (has_later cases before p ≡ true) × StandsBeside cases (b ∷ before) after
-beside_late cases before b c after p distinct e within names ready met next less s = (
-  s.next p ∙ test,
-  record {
-    names = ap (λ x. x.keys) names ∙ s.names;
-    ready = subst (λ x. AllZip IsCaseOf cases x.items) (sym ready) s.ready;
-    met = λ q t at. ap (λ x. slice_index_or x q false) met ∙ met_more cases before b c.met.items p q t distinct e within at (s.met q t at);
-    next = λ q. by_place q (nat_lt q p) refl;
-  },
-)
+beside_late cases before b c after p distinct e within names ready met next less s =
+    let test : nat_lt (p + 1) c.next ≡ true = grind (arith, nat_tests) in
+    (s.next p ∙ test, beside_met cases before b c after p distinct e within names ready met (λ q. by_place q (nat_lt q p) refl) s)
   where
-    test : nat_lt (p + 1) c.next ≡ true
-    test = grind (arith, nat_tests)
-
-    by_place : (q : ℕ) (x : Bool) → nat_lt q p ≡ x → (is_before q (place_in cases b.header.name) || has_later cases before q) ≡ nat_lt (q + 1) after.next
-    by_place q true k = let far : nat_lt (q + 1) after.next ≡ true = grind (arith, nat_tests) in rw (e, k) (sym far)
-    by_place q false k = rw (e, k) (s.next q ∙ ap (nat_lt (q + 1)) (sym next))
+    by_place : (q : ℕ) (x : Bool) → nat_lt q p ≡ x → (x || nat_lt (q + 1) c.next) ≡ nat_lt (q + 1) after.next
+    by_place q true k = let far : nat_lt (q + 1) after.next ≡ true = grind (arith, nat_tests) in sym far
+    by_place q false k = ap (nat_lt (q + 1)) (sym next)
 
 -- a block of a test case after those that were met
 pub beside_next : (cases : CampaignView) (before : List Block) (b : Block) (c after : Comparing) (p : ℕ) → has_twice (map (λ t. t.0) cases) ≡ false →
     place_in cases b.header.name ≡ Some p → p < length c.met.items → after.names ≡ c.names → after.ready ≡ c.ready → after.met.items ≡ slice_set c.met.items p true →
     after.next ≡ p + 1 → c.next ≤ p + 1 → StandsBeside cases before c → (has_later cases before p ≡ false) × StandsBeside cases (b ∷ before) after
-beside_next cases before b c after p distinct e within names ready met next least s = (
-  s.next p ∙ test,
-  record {
-    names = ap (λ x. x.keys) names ∙ s.names;
-    ready = subst (λ x. AllZip IsCaseOf cases x.items) (sym ready) s.ready;
-    met = λ q t at. ap (λ x. slice_index_or x q false) met ∙ met_more cases before b c.met.items p q t distinct e within at (s.met q t at);
-    next = λ q. by_place q (nat_lt q p) refl;
-  },
-)
+beside_next cases before b c after p distinct e within names ready met next least s =
+    let test : nat_lt (p + 1) c.next ≡ false = grind (arith, nat_tests) in
+    (s.next p ∙ test, beside_met cases before b c after p distinct e within names ready met (λ q. by_place q (nat_lt q p) refl) s)
   where
-    test : nat_lt (p + 1) c.next ≡ false
-    test = grind (arith, nat_tests)
-
-    by_place : (q : ℕ) (x : Bool) → nat_lt q p ≡ x → (is_before q (place_in cases b.header.name) || has_later cases before q) ≡ nat_lt (q + 1) after.next
-    by_place q true k = let far : nat_lt (q + 1) after.next ≡ true = grind (arith, nat_tests) in rw (e, k) (sym far)
+    by_place : (q : ℕ) (x : Bool) → nat_lt q p ≡ x → (x || nat_lt (q + 1) c.next) ≡ nat_lt (q + 1) after.next
+    by_place q true k = let far : nat_lt (q + 1) after.next ≡ true = grind (arith, nat_tests) in sym far
     by_place q false k =
         let near : nat_lt (q + 1) after.next ≡ false = grind (arith, nat_tests) in
         let was : nat_lt (q + 1) c.next ≡ false = grind (arith, nat_tests) in
-        rw (e, k) (s.next q ∙ (was ∙ sym near))
+        was ∙ sym near
 
 -- a test case that is met before a block of its name, by what is kept
 pub not_met : (cases : CampaignView) (before : List Block) (b : Block) (c : Comparing) (p : ℕ) → place_in cases b.header.name ≡ Some p →
@@ -222,7 +211,7 @@ scripts_at (c ∷ cs) (k ∷ ks) (suc p) t d each at = scripts_at cs ks p t d ea
 among_last : (x n : Word) (xs ys : List Word) → n ≡ x → among x (xs ++ n ∷ ys) ≡ true
 unfolding among
 among_last x n [] ys e = ap (λ b. b || list_any (is_text x) ys) (alike x n (sym e))
-among_last x n (y ∷ xs) ys e = ap (λ b. is_text x y || b) (among_last x n xs ys e) ∙ or_true (is_text x y)
+among_last x n (y ∷ xs) ys e = ap (λ b. is_text x y || b) (among_last x n xs ys e) ∙ or-true (is_text x y)
 
 -- of names that are there once, those before one are others
 pub apart : (xs : List Word) (n : Word) (ys : List Word) → has_twice (xs ++ n ∷ ys) ≡ false → among n xs ≡ false
@@ -351,13 +340,7 @@ pub ruleset missing_rules = (adds_met, adds_unmet, missing_all)
 -- a script that is refused
 pub script_refused : (choice : Choice) (text : List ℕ) (fault : RunFault) → RefusesChoice choice (script_part text) fault → RefusesAgainst choice text fault
 script_refused choice text (RunFault.Text fault) refused = absurd refused
-script_refused choice text RunFault.TooLong refused = refused
-script_refused choice text RunFault.Read refused = refused
-script_refused choice text RunFault.Write refused = refused
-script_refused choice text RunFault.NoMemory refused = refused
-script_refused choice text (RunFault.Script fault) refused = refused
-script_refused choice text RunFault.StopOn refused = refused
-script_refused choice text RunFault.Only refused = refused
+script_refused choice text _ refused = refused
 
 -- the blocks are refused, after a script that is not
 pub blocks_refused : (choice : Choice) (text : List ℕ) (ready : List (Case ScriptView)) (fault : RunFault) → AreReady choice (script_part text) ready
@@ -370,14 +353,14 @@ pub ruleset refusing_rules = (script_refused, blocks_refused, comparable)
 
 -- ---- what is said of blocks
 
-pub says_none : {S : Type 0} (says : Block → S → Type 0) (c : Comparing) (j : Judged (Whole S)) (out : List ℕ) (after : Comparing) → Judges says c j None after → SaysNext says c j out after out
-says_none says c j out after judges cases before b is distinct s said =
+pub says_none : (c : Comparing) (j : Judged Whole) (out : List ℕ) (after : Comparing) → Judges c j None after → SaysNext c j out after out
+says_none c j out after judges cases before b is distinct s said =
     let so = judges cases before b is distinct s in
     (so.0, subst (AreJudged cases (b ∷ before)) (append-nil out) (AreJudged.more before out b None said so.1))
 
-pub says_wrong : {S : Type 0} (says : Block → S → Type 0) (c : Comparing) (j : Judged (Whole S)) (out : List ℕ) (after : Comparing) (wrong : Wrong) (new : List ℕ) → Judges says c j (Some wrong) after →
-    new ≡ out ++ note j.name wrong → SaysNext says c j out after new
-says_wrong says c j out after wrong new judges noted cases before b is distinct s said =
+pub says_wrong : (c : Comparing) (j : Judged Whole) (out : List ℕ) (after : Comparing) (wrong : Wrong) (new : List ℕ) → Judges c j (Some wrong) after →
+    new ≡ out ++ note j.name wrong → SaysNext c j out after new
+says_wrong c j out after wrong new judges noted cases before b is distinct s said =
     let so = judges cases before b is distinct s in
     (so.0, subst (AreJudged cases (b ∷ before)) (sym (noted ∙ ap (λ n. out ++ note n wrong) is.name)) (AreJudged.more before out b (Some wrong) said so.1))
 
@@ -386,9 +369,9 @@ pub ruleset saying_rules = (says_none, says_wrong)
 -- ---- one block after the other
 
 -- these test cases and the first of these judged blocks, that many, are compared so
-abbrev pub ComparedTo : {S : Type 0} → (Block → S → Type 0) → List (Case ScriptView) → List (Judged (Whole S)) → ℕ → Comparing → List ℕ → Type 0
-ComparedTo says ready js i c out =
-    (cases : CampaignView) (blocks : List Block) → AllZip IsCaseOf cases ready → AllZip (IsJudgedBlock (IsWholeOfBlock says)) blocks js
+abbrev pub ComparedTo : List (Case ScriptView) → List (Judged Whole) → ℕ → Comparing → List ℕ → Type 0
+ComparedTo ready js i c out =
+    (cases : CampaignView) (blocks : List Block) → AllZip IsCaseOf cases ready → AllZip (IsJudgedBlock IsWholeOfBlock) blocks js
     → StandsBeside cases (reverse (take i blocks)) c × AreJudged cases (reverse (take i blocks)) out
 
 block_at : {K : Type 0} (keeps : Block → K → Type 0) (bs : List Block) (js : List (Judged K)) (i : ℕ) (j : Judged K) → AllZip (IsJudgedBlock keeps) bs js → i < length js → get_or js i j ≡ j
@@ -403,10 +386,10 @@ block_at keeps (b ∷ bs) (k ∷ js) (suc i) j each within item =
     (rest.0, rest.1, ap (λ n. take n (b ∷ bs)) on ∙ ap (λ l. b ∷ l) rest.2)
 
 -- one block more
-pub compared_more : {S : Type 0} (says : Block → S → Type 0) (ready : List (Case ScriptView)) (js : List (Judged (Whole S))) (i : ℕ) (j : Judged (Whole S)) (c after : Comparing) (out new : List ℕ) → AreComparable ready
-    → i < length js → get_or js i j ≡ j → ComparedTo says ready js i c out → SaysNext says c j out after new → ComparedTo says ready js (i + 1) after new
-compared_more says ready js i j c after out new are within item so next cases blocks each judged =
-    let at = block_at (IsWholeOfBlock says) blocks js i j judged within item in
+pub compared_more : (ready : List (Case ScriptView)) (js : List (Judged Whole)) (i : ℕ) (j : Judged Whole) (c after : Comparing) (out new : List ℕ) → AreComparable ready
+    → i < length js → get_or js i j ≡ j → ComparedTo ready js i c out → SaysNext c j out after new → ComparedTo ready js (i + 1) after new
+compared_more ready js i j c after out new are within item so next cases blocks each judged =
+    let at = block_at IsWholeOfBlock blocks js i j judged within item in
     let more : reverse (take (i + 1) blocks) ≡ at.0 ∷ reverse (take i blocks) = ap reverse at.2 ∙ reverse-append (take i blocks) (at.0 ∷ []) in
     let before = so cases blocks each judged in
     let both = next cases (reverse (take i blocks)) at.0 at.1 (names_differ cases ready each are) before.0 before.1 in

@@ -1,13 +1,13 @@
 -- Judged blocks: what `check` and `report` make of them.
-use Rattle.std.{proofs.{Common.{ℕ, ◌≡◌, ◌≢◌, ◌∙◌, ◌&&◌, ◌||◌, ◌==◌, cond, not, Bool, true, false, Option, Some, None, List, [], ◌∷◌, ◌++◌, if◌then◌else◌, filter, length, map, reverse, refl, ap, ap₂, sym, subst, codes, Result, Err}, lemmas.List.{Elements.{All-cons, All-head, All-nil, All-tail}}}, specs.{List.{AllZip, flat_map, list_any}, Prelude.{IsErrAnd, is_some, Ok}}}
-use Rattle.tc_answer.{specs.{Prelude.have_names, declared.{fault.RunFault.RunFault, reply.Answer.Answer}}, proofs.Lemmas.Chosen.at_place}
+use Rattle.std.{proofs.{Common.{ℕ, ◌≡◌, ◌≢◌, ◌∙◌, ◌&&◌, ◌||◌, ◌==◌, cond, not, Bool, true, false, Option, Some, None, List, [], ◌∷◌, ◌++◌, if◌then◌else◌, filter, length, map, reverse, refl, ap, ap₂, sym, subst, codes, Result, Err}, lemmas.List.{Elements.{All-cons, All-filter, All-head, All-nil, All-tail}}}, specs.{List.{AllZip, flat_map, list_any}, Prelude.{IsErrAnd, is_some, Ok}}}
+use Rattle.tc_answer.{specs.{Prelude.have_names, declared.{fault.RunFault.RunFault, reply.Answer.Answer}}, proofs.Lemmas.Chosen.{at_place, zip_filter}}
 use Rattle.tc_blocks.specs.{declared.{block.Block.Block, line.Line.Line}, Prelude.{entries_of, entry_in}}
 use Rattle.tc_command.specs.declared.task.{Choice.Choice, ReportForm.ReportForm}
 use Rattle.tc_report.{specs.{Prelude.{block_summary, blocks_report, bare_summary, replayed_text, said_in, said_with, summary_of, verdict_status, verdicts_closing, worst_of}, declared.{results.CaseEnd.CaseEnd, said.Said.Said, summary.Summary.Summary}}, proofs.Lemmas.Telling.said_more}
 use Rattle.tc_rules.specs.Prelude.{Entry, StandsFor, Verdict, matches, name_of}
 use Rattle.tc_text.specs.Prelude.{reply_text}
 use Rattle.tc_reader.specs.Prelude.{Word}
-use Rattle.tc_judge.{specs.{Check.{AreAllLegal, Checks, IsChecked, IsIllegalLine, IsLegalBlock, IsMadeOfBlocks, IsSilent, NameBlocks, RefusesBlocks, disagreeing_line, counting, is_chosen}, Inside.{AreChosenBlocks, AreJudgedIn, IsFirstIllegal, IsJudgedBlock, IsJudgement, IsPlayed, IsPlayedTo, IsSummaryOf, IsTextFor, IsWholeOfBlock, Reports, block_name, first_illegal, illegal_line, is_picked, judged_name, judged_report, judged_text, judges_legal, line_of_judgement, picked_by, printed, summary_by, gives_text, made_line}, Report.{AnswersCases, IsForm, IsReport, body_of, summaries_of, is_of_judged}, declared.{judged.Judged.Judged, kept.Whole.Whole, playing.{Difference.Difference, Judgement.Judgement, Playing.Playing}}}, proofs.Lemmas.{answer_of, block_line, none_illegal, entries_last, no_difference}}
+use Rattle.tc_judge.{specs.{Check.{AreAllLegal, Checks, IsChecked, IsIllegalLine, IsLegalBlock, IsMadeOfBlocks, IsSilent, NameBlocks, RefusesBlocks, disagreeing_line, counting, is_chosen}, Inside.{AreChosenBlocks, AreJudgedIn, ArePicked, IsFirstIllegal, IsJudgedBlock, IsJudgement, IsPlayed, IsPlayedTo, IsSummaryOf, IsTextFor, IsWholeOfBlock, Reports, block_name, first_illegal, illegal_line, is_picked, judged_name, judged_report, judged_text, judges_legal, line_of_judgement, names_found, picked_by, printed, summary_by, gives_text, made_line}, Report.{AnswersCases, IsForm, IsReport, IsReported, body_of, summaries_of, is_of_judged}, declared.{judged.Judged.Judged, kept.Whole.Whole, playing.{Difference.Difference, Judgement.Judgement, Playing.Playing}}}, proofs.Lemmas.{answer_of, block_line, none_illegal, entries_last, no_difference}}
 
 -- what holds of a fault holds of the answer that passes it on
 pub passed_on : {A E : Type 0} (holds : Result A E → Type 0) (answer : Result A E) (fault : E) → IsErrAnd answer (λ f. f ≡ fault) → holds (Err fault) → holds answer
@@ -161,33 +161,6 @@ summary_kept b p entries s played are said same says legal = by p.difference pla
         ∙ ap₂ (λ (name : List ℕ) (n : ℕ). summary_of name n (entries_of b.lines) (said_in b.lines)) (ap (λ h. h.name) played.0) is.0)
     by (Some d) is = absurd (no_difference b.header.behaviours b.lines is.before is.behind is.entry d.reply legal.replies is.place is.answers is.other)
 
-module _ {K : Type 0} (keeps : Block → K → Type 0) (picks : Word → Verdict → Bool) where
-  -- the judged blocks that are picked are those of the blocks that are
-  pub picked_each : (bs : List Block) (js : List (Judged K)) → AllZip (IsJudgedBlock keeps) bs js
-      → AllZip (IsJudgedBlock keeps) (filter (picked_by picks) bs) (filter (λ j. picks j.name j.verdict) js)
-  picked_each [] [] each = tt
-  picked_each [] (j ∷ js) each = absurd each
-  picked_each (b ∷ bs) [] each = absurd each
-  picked_each (b ∷ bs) (j ∷ js) each =
-      subst (λ t. AllZip (IsJudgedBlock keeps) (if t then b ∷ filter (picked_by picks) bs else filter (picked_by picks) bs)
-      (if picks j.name j.verdict then j ∷ filter (λ x. picks x.name x.verdict) js else filter (λ x. picks x.name x.verdict) js))
-      (ap₂ picks each.0.name each.0.verdict) (by (picks j.name j.verdict) (picked_each bs js each.1))
-    where
-      by : (t : Bool) → AllZip (IsJudgedBlock keeps) (filter (picked_by picks) bs) (filter (λ x. picks x.name x.verdict) js)
-          → AllZip (IsJudgedBlock keeps) (if t then b ∷ filter (picked_by picks) bs else filter (picked_by picks) bs)
-          (if t then j ∷ filter (λ x. picks x.name x.verdict) js else filter (λ x. picks x.name x.verdict) js)
-      by true rest = (each.0, rest)
-      by false rest = rest
-
-  -- if all blocks are legal, those that are picked are
-  pub picked_legal : (bs : List Block) → AreAllLegal bs → AreAllLegal (filter (picked_by picks) bs)
-  picked_legal [] all = all
-  picked_legal (b ∷ bs) all = by (picked_by picks b) (picked_legal bs (All-tail IsLegalBlock b bs all))
-    where
-      by : (t : Bool) → AreAllLegal (filter (picked_by picks) bs) → AreAllLegal (if t then b ∷ filter (picked_by picks) bs else filter (picked_by picks) bs)
-      by true rest = All-cons IsLegalBlock b (filter (picked_by picks) bs) (All-head IsLegalBlock b bs all) rest
-      by false rest = rest
-
 -- the summaries of legal blocks
 summaries_alike : {K : Type 0} (keeps : Block → K → Type 0) (summary : K → Summary) → ((b : Block) (k : K) → keeps b k → IsLegalBlock b → summary k ≡ block_summary b)
     → (cs : List Block) (js : List (Judged K)) → AllZip (IsJudgedBlock keeps) cs js → AreAllLegal cs → map (summary_by summary) js ≡ map block_summary cs
@@ -203,9 +176,9 @@ module _ {K : Type 0} (keeps : Block → K → Type 0) where
   pub picked_chosen : (picks : Word → Verdict → Bool) (bs : List Block) (js : List (Judged K)) (o : Option Judgement) → AllZip (IsJudgedBlock keeps) bs js
       → o ≡ first_illegal js → AreChosenBlocks keeps bs (filter (picked_by picks) bs) (filter (λ j. picks j.name j.verdict) js) o
   picked_chosen picks bs js o each first = record {
-    each = picked_each keeps picks bs js each;
+    each = zip_filter (IsJudgedBlock keeps) (picked_by picks) (λ j. picks j.name j.verdict) (λ b j is. ap₂ picks (sym is.name) (sym is.verdict)) bs js each;
     first = subst (IsFirstIllegal bs) (sym first) (first_found keeps bs js each);
-    legal = picked_legal keeps picks bs;
+    legal = All-filter (picked_by picks) IsLegalBlock bs;
   }
 
   pub all_chosen : (bs : List Block) (js : List (Judged K)) (o : Option Judgement) → AllZip (IsJudgedBlock keeps) bs js → o ≡ first_illegal js
@@ -217,22 +190,45 @@ module _ {K : Type 0} (keeps : Block → K → Type 0) where
       (js : List (Judged K)) (o : Option Judgement) → AreChosenBlocks keeps bs cs js o → Reports bs cs (map (summary_by summary) js) o
   chosen_reports summary same bs cs js o are = (are.first, λ legal. summaries_alike keeps summary same cs js are.each (are.legal legal))
 
+  -- some pattern of the choice matches the name of none
+  pub pick_refused : (form : ReportForm) (choice : Choice) (text : List ℕ) (js : List (Judged K)) (answer : Result Answer RunFault) (fault : RunFault) → IsErrAnd answer (λ f. f ≡ fault)
+      → AreJudgedIn keeps choice.last text js → (fault ≡ RunFault.Only) × (names_found choice js ≡ false) → IsMadeOfBlocks choice text (IsReported form choice.last (is_chosen choice) text) answer
+  pick_refused form choice text js answer fault passed are lacking =
+      passed_on (IsMadeOfBlocks choice text (IsReported form choice.last (is_chosen choice) text)) answer fault passed
+      (rw lacking.0 (names_lacking keeps choice choice.only.items text js refl are lacking.1))
+
+  -- what is answered for those that are picked is made of the text
+  pub pick_reported : (form : ReportForm) (choice : Choice) (text : List ℕ) (js chosen : List (Judged K)) (illegal : Option Judgement) (notes : List ℕ) (a : Answer) → AreJudgedIn keeps choice.last text js
+      → ArePicked choice js chosen illegal → notes ≡ [] → ((bs cs : List Block) → AreChosenBlocks keeps bs cs chosen illegal → IsReport form text bs cs [] notes a)
+      → IsMadeOfBlocks choice text (IsReported form choice.last (is_chosen choice) text) (Ok a)
+  pick_reported form choice text js chosen illegal notes a are picked none reports = (
+    record {
+      blocks = are.blocks;
+      evidence = are.evidence;
+      holds = λ all is.
+          let bs = counting choice.last all in
+          let cs = filter (is_chosen choice) bs in
+          subst (λ n. IsReport form text bs cs [] n a) none (reports bs cs (subst (λ l. AreChosenBlocks keeps bs cs l illegal) (sym picked.picked)
+          (picked_chosen (is_picked choice.only.items choice.failed) bs js illegal (are.holds all is) picked.first)));
+    },
+    all_named keeps choice choice.only.items text js refl are picked.found,
+  )
+
 -- what the text report says of a block
 abbrev block_report : Block → List ℕ
 block_report b = replayed_text (block_summary b) b.header.behaviours (entries_of b.lines) b.verdict
 
 -- the text report of legal blocks
-report_alike : (c : Block) (j : Judged (Whole Summary)) → IsJudgedBlock (IsWholeOfBlock IsSummaryOf) c j → IsLegalBlock c → judged_report j ≡ block_report c
+report_alike : (c : Block) (j : Judged Whole) → IsJudgedBlock IsWholeOfBlock c j → IsLegalBlock c → judged_report j ≡ block_report c
 report_alike c j is legal =
-    let said = is.kept.said legal in
-    ap (λ s. replayed_text s j.kept.behaviours j.kept.entries.items j.verdict) said
+    ap (λ s. replayed_text s j.kept.behaviours j.kept.entries.items j.verdict) (is.kept.summary legal)
     ∙ rw (is.kept.behaviours, is.kept.entries, is.verdict) refl
 
-pub text_alike : (cs : List Block) (js : List (Judged (Whole Summary))) → AllZip (IsJudgedBlock (IsWholeOfBlock IsSummaryOf)) cs js → AreAllLegal cs
+pub text_alike : (cs : List Block) (js : List (Judged Whole)) → AllZip (IsJudgedBlock IsWholeOfBlock) cs js → AreAllLegal cs
     → judged_text js ≡ blocks_report cs
 text_alike cs js each legal = ap₂ (λ l vs. l ++ verdicts_closing vs) (texts cs js each legal) (verdicts cs js each)
   where
-    texts : (cs : List Block) (js : List (Judged (Whole Summary))) → AllZip (IsJudgedBlock (IsWholeOfBlock IsSummaryOf)) cs js → AreAllLegal cs
+    texts : (cs : List Block) (js : List (Judged Whole)) → AllZip (IsJudgedBlock IsWholeOfBlock) cs js → AreAllLegal cs
         → flat_map judged_report js ≡ flat_map block_report cs
     texts [] [] each legal = refl
     texts [] (j ∷ js) each legal = absurd each
@@ -241,7 +237,7 @@ text_alike cs js each legal = ap₂ (λ l vs. l ++ verdicts_closing vs) (texts c
         ap₂ (λ (x : List ℕ) (l : List ℕ). x ++ l) (report_alike c j each.0 (All-head IsLegalBlock c cs legal))
         (texts cs js each.1 (All-tail IsLegalBlock c cs legal))
 
-    verdicts : (cs : List Block) (js : List (Judged (Whole Summary))) → AllZip (IsJudgedBlock (IsWholeOfBlock IsSummaryOf)) cs js
+    verdicts : (cs : List Block) (js : List (Judged Whole)) → AllZip (IsJudgedBlock IsWholeOfBlock) cs js
         → map (λ j. j.verdict) js ≡ map (λ b. b.verdict) cs
     verdicts [] [] each = refl
     verdicts [] (j ∷ js) each = absurd each
@@ -257,18 +253,14 @@ answer_made form text notes lent ss out told worst status out_is told_is same wo
 -- the text of all blocks is that of each form but the text report
 pub other_text : (form : ReportForm) (given : List ℕ) (chosen : List Block) → form ≢ ReportForm.Text → IsTextFor form given chosen given
 other_text ReportForm.Text given chosen other = absurd (other refl)
-other_text ReportForm.Csv given chosen other = tt
-other_text (ReportForm.Junit suite) given chosen other = tt
 other_text ReportForm.Html given chosen other = refl
-other_text ReportForm.Summary given chosen other = tt
+other_text _ given chosen other = tt
 
 -- and a form of what is judged needs none
 pub no_text : (form : ReportForm) (given text : List ℕ) (chosen : List Block) → is_of_judged form ≡ true → IsTextFor form given chosen text
 no_text ReportForm.Text given text chosen is = absurd cc
-no_text ReportForm.Csv given text chosen is = tt
-no_text (ReportForm.Junit suite) given text chosen is = tt
 no_text ReportForm.Html given text chosen is = absurd cc
-no_text ReportForm.Summary given text chosen is = tt
+no_text _ given text chosen is = tt
 
 -- what is made of a text, none of whose blocks is illegal
 pub legal_report : (form : ReportForm) (given text : List ℕ) (ss : List Summary) (names : List (List ℕ)) (notes : List ℕ) (a : Answer) (blocks chosen : List Block)
@@ -280,7 +272,5 @@ legal_report form given text ss names notes a blocks chosen fits is made =
     by : (form : ReportForm) → IsTextFor form given chosen text → AnswersCases form text notes (summaries_of chosen names) a
         → AnswersCases form (body_of form given chosen) notes (summaries_of chosen names) a
     by ReportForm.Text same is = subst (λ t. AnswersCases ReportForm.Text t notes (summaries_of chosen names) a) same is
-    by ReportForm.Csv same is = is
-    by (ReportForm.Junit suite) same is = is
     by ReportForm.Html same is = subst (λ t. AnswersCases ReportForm.Html t notes (summaries_of chosen names) a) same is
-    by ReportForm.Summary same is = is
+    by _ same is = is

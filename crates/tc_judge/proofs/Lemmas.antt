@@ -28,10 +28,8 @@ newest lines e = ap reverse (entries_more lines e) ∙ reverse-append (entries_o
 
 -- no line has two entries
 one_entry : (l : Line) → length (entry_in l) ≤ 1
-one_entry (Line.Named run name) = omega arith
 one_entry (Line.Entry e) = omega arith
-one_entry (Line.Remark run sentence) = omega arith
-one_entry (Line.Refused run sentence) = omega arith
+one_entry _ = omega arith
 
 few_entries : (lines : List Line) → length (entries_of lines) ≤ length lines
 few_entries [] = omega arith
@@ -55,6 +53,17 @@ other_stays n first lines l line given reply so = record {
 pub passed_played : (n first : ℕ) (lines : List Line) (l : Line) (k : Kept) (entries : ℕ) (o : Option Difference) → is_some o ≡ true → IsPlayedTo n first lines k entries o → IsPlayedTo n first (lines ++ l ∷ []) k entries o
 passed_played n first lines l k entries None some so = absurd cc
 passed_played n first lines l k entries (Some d) some so = other_stays n first lines l d.line d.given d.reply so
+
+-- a line that is no entry
+pub no_entry : (l : Line) → ((e : Entry) → l ≢ Line.Entry e) → entry_in l ≡ []
+no_entry (Line.Entry e) other = absurd (other e refl)
+no_entry _ other = refl
+
+pub note_played : (n first : ℕ) (lines : List Line) (l : Line) (k : Kept) (entries : ℕ) (o : Option Difference) → entry_in l ≡ [] → IsPlayedTo n first lines k entries o → IsPlayedTo n first (lines ++ l ∷ []) k entries o
+note_played n first lines l k entries None none so =
+    let same = entries_last lines l ∙ (ap (λ (es : List Entry). entries_of lines ++ es) none ∙ append-nil (entries_of lines)) in
+    subst (λ (es : List Entry). (k.behaviours ≡ n) × StandsFor k (reverse es) × IsLegal n (reverse es) × (entries ≡ length es)) (sym same) so
+note_played n first lines l k entries (Some d) none so = other_stays n first lines l d.line d.given d.reply so
 
 -- an entry with the table's reply; there are fewer entries than lines, so their number is exact
 pub entry_played : (n first : ℕ) (lines : List Line) (e : Entry) (k k' : Kept) (entries entries' line : ℕ) (o : Option Difference) → is_some o ≡ false → IsPlayedTo n first lines k entries o → IsReplyOf k e.caller e.op e.reply → TakesIn k e k' → k'.behaviours ≡ k.behaviours

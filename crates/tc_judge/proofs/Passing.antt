@@ -1,18 +1,14 @@
 -- Test cases that have passed, by the names that blocks have.
-use Rattle.std.{proofs.{Common.{ℕ, ◌≡◌, ◌∙◌, ◌&&◌, ◌||◌, ◌↔◌, not, All, Bool, true, false, List, [], ◌∷◌, ◌++◌, if◌then◌else◌, filter, ap, ap₂, refl, sym, subst}, lemmas.List.{Elements.{All-cons, All-head, All-nil, All-tail}, Folds.list_any-append}}, specs.List.{AllZip, list_any}}
+use Rattle.std.{proofs.{Math.Bool.and-false, Common.{ℕ, ◌≡◌, ◌∙◌, ◌&&◌, ◌||◌, ◌↔◌, not, All, Bool, true, false, List, [], ◌∷◌, ◌++◌, if◌then◌else◌, filter, ap, ap₂, refl, sym, subst}, lemmas.List.{Elements.{All-cons, All-filter, All-head, All-nil, All-tail}, Folds.list_any-append}}, specs.List.{AllZip, list_any}}
 use Rattle.tc_exec.specs.declared.test_case.Case.{Case}
 use Rattle.tc_command.specs.declared.task.Choice.{Choice}
 use Rattle.tc_blocks.specs.declared.block.Block.{Block}
 use Rattle.tc_reader.specs.Prelude.{is_text, CampaignView, IsCase, Word, add, among}
 use Rattle.tc_step.specs.Prelude.{ScriptView}
-use Rattle.tc_answer.{specs.{Prelude.{AreChosen, blocks_part, script_part, CaseView}, Inside.{AreReady, AreReadyAs, IsCaseOf, script_name}}, proofs.Lemmas.Chosen.{all_filtered, distinct_filtered, or_left, or_right, zip_with}}
-use Rattle.tc_judge.{specs.{Inside.{AreJudgedIn, AreReadyToRun, HasSeen, IsJudgedBlock, IsJudgement, KeepsNothing, fails, judges_legal, passes, shows_passed, with_failed}, Compared.{AreUnpassed, HasPassed}, Check.{IsLegalBlock, counting, is_passing}, declared.{judged.Judged.Judged, kept.Nothing.Nothing, passed.Seen.Seen, playing.Judgement.Judgement}}, proofs.{Counting.same_word, Judging.any_named, Lemmas.no_difference}}
+use Rattle.tc_answer.{specs.{Prelude.{AreChosen, blocks_part, script_part, CaseView}, Inside.{AreReady, AreReadyAs, IsCaseOf, script_name}}, proofs.Lemmas.Chosen.{distinct_filtered, or_left, or_right, zip_filter}}
+use Rattle.tc_judge.{specs.{Inside.{AreJudgedIn, HasSeen, IsJudgedBlock, IsJudgement, KeepsNothing, fails, judges_legal, passes, shows_passed, with_failed}, Compared.{AreToRun, AreUnpassed, HasPassed}, Check.{IsLegalBlock, counting, is_passing}, declared.{judged.Judged.Judged, kept.Nothing.Nothing, passed.Seen.Seen, playing.Judgement.Judgement}}, proofs.{Counting.same_word, Judging.any_named, Lemmas.no_difference}}
 
 -- ---- names
-
-and_false : (a : Bool) → (a && false) ≡ false
-and_false true = refl
-and_false false = refl
 
 last_or : (a b : Bool) → (a || (b || false)) ≡ (b || a)
 last_or true true = refl
@@ -112,7 +108,7 @@ none_unshown n (b ∷ bs) (j ∷ js) each all =
   where
     by : (t : Bool) → is_text n j.name ≡ t → (fails n j) ≡ false
     by true named = rw (shown b j each.0 (All-head (IsShown n) b bs all (ap (is_text n) (sym each.0.name) ∙ named))) refl
-    by false named = rw named (and_false (not (passes j)))
+    by false named = rw named (and-false (not (passes j)))
 
 -- what is kept of the names says which test cases have passed
 pub passed_by_names : (bs : List Block) (js : List (Judged Nothing)) (s : Seen) → AllZip (IsJudgedBlock KeepsNothing) bs js → HasSeen js s
@@ -130,15 +126,6 @@ passed_by_names bs js s each seen n = (
     and_both false b e = absurd cc
 
 -- ---- test cases
-
-zip_filtered : (passed : Word → Bool) (cs : CampaignView) (ks : List (Case ScriptView)) → AllZip IsCaseOf cs ks
-    → AllZip IsCaseOf (filter (λ c. not (passed (script_name c))) cs) (filter (λ k. not (passed k.name)) ks)
-zip_filtered passed [] [] each = tt
-zip_filtered passed [] (k ∷ ks) each = absurd each
-zip_filtered passed (c ∷ cs) [] each = absurd each
-zip_filtered passed (c ∷ cs) (k ∷ ks) each =
-    zip_with (not (passed c.0)) (not (passed k.name)) c k (filter (λ c. not (passed (script_name c))) cs) (filter (λ k. not (passed k.name)) ks)
-    (ap (λ n. not (passed n)) (sym each.0.name)) each.0 (zip_filtered passed cs ks each.1)
 
 -- of the chosen test cases of a script those that have not passed are ready to be run
 pub ready_unpassed : (choice : Choice) (text : List ℕ) (ks rs : List (Case ScriptView)) (js : List (Judged Nothing)) (s : Seen) → AreReady choice (script_part text) ks
@@ -160,16 +147,17 @@ ready_unpassed choice text ks rs js s are judged seen left =
         are = refl;
       };
       distinct = distinct_filtered test are.cases are.distinct;
-      lawful = all_filtered (λ c. IsCase c.1) test are.cases are.lawful;
-      each = subst (λ l. AllZip IsCaseOf (filter test are.cases) l) (sym left) (zip_filtered (shows_passed s) are.cases ks are.each);
+      lawful = All-filter test (λ c. IsCase c.1) are.cases are.lawful;
+      each = subst (λ l. AllZip IsCaseOf (filter test are.cases) l) (sym left)
+          (zip_filter IsCaseOf test (λ k. not (shows_passed s k.name)) (λ c k is. ap (λ n. not (shows_passed s n)) (sym is.name)) are.cases ks are.each);
     }
 
 -- by whether those that have passed are left out
 abbrev to_run_by : Bool → Choice → List ℕ → CampaignView → Type 0
 to_run_by left_out choice = elim left_out [ true ↦ AreUnpassed choice | false ↦ AreChosen choice ]
 
-pub to_run_left : (choice : Choice) (text : List ℕ) (ks : List (Case ScriptView)) → choice.failed ≡ true → AreReadyAs (AreUnpassed choice text) ks → AreReadyToRun choice text ks
+pub to_run_left : (choice : Choice) (text : List ℕ) (ks : List (Case ScriptView)) → choice.failed ≡ true → AreReadyAs (AreUnpassed choice text) ks → AreReadyAs (AreToRun choice text) ks
 to_run_left choice text ks is are = subst (λ b. AreReadyAs (to_run_by b choice text) ks) (sym is) are
 
-pub to_run_chosen : (choice : Choice) (text : List ℕ) (ks : List (Case ScriptView)) → choice.failed ≡ false → AreReady choice text ks → AreReadyToRun choice text ks
+pub to_run_chosen : (choice : Choice) (text : List ℕ) (ks : List (Case ScriptView)) → choice.failed ≡ false → AreReady choice text ks → AreReadyAs (AreToRun choice text) ks
 to_run_chosen choice text ks is are = subst (λ b. AreReadyAs (to_run_by b choice text) ks) (sym is) are

@@ -5,13 +5,13 @@ use Rattle.tc_rules.specs.Prelude.{Verdict, Entry, Kept, StandsFor, answer, name
 use Rattle.tc_text.specs.Prelude.{reply_text}
 use Rattle.tc_step.specs.Prelude.{ScriptView}
 use Rattle.tc_reader.specs.Prelude.{is_text, Word, add, among, has_twice, CampaignView}
-use Rattle.tc_blocks.specs.Prelude.{entries_of, HoldsOfBlocks, LinesAreLegal, overall_of}
+use Rattle.tc_blocks.specs.Prelude.{AreEvidence, entries_of, HoldsOfBlocks, LinesAreLegal, overall_of}
 use Rattle.tc_blocks.specs.declared.{block.Block.Block, header.Header.Header, line.Line.Line as BlockLine}
 use Rattle.tc_report.specs.{Prelude.{block_summary, blocks_report, replayed_text, said_in, verdicts_closing}, declared.summary.Summary.Summary}
 use Rattle.tc_exec.specs.declared.test_case.Case.{Case}
 use Rattle.tc_command.specs.declared.task.{Choice.Choice, ReportForm.ReportForm}
-use Rattle.tc_answer.specs.{Prelude.{have_names, is_asked, CaseView}, Inside.{AreReadyAs, place_text, IsCaseOf}}
-use Rattle.tc_judge.specs.{Check.{AreAllLegal, Checks, IsLegalBlock, legal_line, counting, is_passing, put}, Compared.{AreJudged, IsCompared, IsJudged, has_block_named, has_later, missing, AreToRun}, declared.{compare.{Comparing.Comparing, Comparison.Comparison, Wrong.Wrong}, judged.{Judged.Judged, Recorded.Recorded}, kept.{Nothing.Nothing, Whole.Whole}, passed.Seen.Seen, playing.{Difference.Difference, Judgement.Judgement, Playing.Playing}}}
+use Rattle.tc_answer.specs.{Prelude.{AreChosen, blocks_part, have_names, is_asked, script_part, CaseView}, Inside.{place_text, IsCaseOf}}
+use Rattle.tc_judge.specs.{Check.{AreAllLegal, Checks, IsLegalBlock, legal_line, counting, is_passing, put}, Compared.{AreJudged, IsCompared, IsJudged, has_block_named, has_later, missing}, declared.{compare.{Comparing.Comparing, Comparison.Comparison, Wrong.Wrong}, judged.{Judged.Judged, Recorded.Recorded}, kept.{Nothing.Nothing, Whole.Whole}, passed.Seen.Seen, playing.{Difference.Difference, Judgement.Judgement, Playing.Playing}}}
 
 -- the name of a block
 abbrev pub block_name : Block → Word
@@ -98,9 +98,9 @@ KeepsNothing b kept = Unit {0}
 abbrev pub IsSummaryOf : Block → Summary → Type 0
 IsSummaryOf b s = IsLegalBlock b → s ≡ block_summary b
 
--- and what is kept of it next to a script, or for its text report: what is said of it, and its entries
-pub record IsWholeOfBlock {S : Type 0} (says : Block → S → Type 0) (b : Block) (w : Whole S) : Type 0 where
-  pub said : says b w.said
+-- and what is kept of it next to a script, or for its text report: its entries too
+pub record IsWholeOfBlock (b : Block) (w : Whole) : Type 0 where
+  pub summary : IsSummaryOf b w.summary
   pub behaviours : w.behaviours ≡ b.header.behaviours
   pub entries : w.entries.items ≡ entries_of b.lines
 
@@ -167,11 +167,11 @@ IsTextFor ReportForm.Text given chosen text = text ≡ blocks_report chosen
 IsTextFor form given chosen text = Unit {0}
 
 -- what the text report says of a judged block
-abbrev pub judged_report : Judged (Whole Summary) → List ℕ
-judged_report j = replayed_text j.kept.said j.kept.behaviours j.kept.entries.items j.verdict
+abbrev pub judged_report : Judged Whole → List ℕ
+judged_report j = replayed_text j.kept.summary j.kept.behaviours j.kept.entries.items j.verdict
 
 -- the text report of judged blocks
-abbrev pub judged_text : List (Judged (Whole Summary)) → List ℕ
+abbrev pub judged_text : List (Judged Whole) → List ℕ
 judged_text js = flat_map judged_report js ++ verdicts_closing (map (λ j. j.verdict) js)
 
 -- this is the judgement of the first of these blocks that is not legal, if there is one
@@ -188,10 +188,6 @@ pub record AreChosenBlocks {K : Type 0} (keeps : Block → K → Type 0) (blocks
   pub each : AllZip (IsJudgedBlock keeps) chosen js
   pub first : IsFirstIllegal blocks illegal
   pub legal : AreAllLegal blocks → AreAllLegal chosen
-
--- the test cases that a run is asked for
-abbrev pub AreReadyToRun : Choice → List ℕ → List (Case ScriptView) → Type 0
-AreReadyToRun choice text = AreReadyAs (AreToRun choice text)
 
 -- by its judgement a block shows its test case to have passed
 abbrev pub passes : Judged Nothing → Bool
@@ -228,6 +224,13 @@ pub record AreComparable (ready : List (Case ScriptView)) : Type 0 where
 abbrev pub Finds : CampaignView → List Block → Comparison → Type 0
 Finds cases blocks r = IsCompared cases blocks r.notes.items × (r.missing.items ≡ missing (reverse blocks) cases)
 
+-- the blocks after a script were judged so, and this is found of those that count next to its chosen test cases
+pub record AreComparedIn (choice : Choice) (text : List ℕ) (js : List (Judged Whole)) (r : Comparison) : Type 0 where
+  pub cases : CampaignView
+  pub chosen : AreChosen choice (script_part text) cases
+  pub judged : AreJudgedIn IsWholeOfBlock choice.last (blocks_part text) js
+  pub found : (all : List Block) → AreEvidence (blocks_part text) all → Finds cases (counting choice.last all) r
+
 -- as much is kept of each test case, and its behaviours are few
 pub record IsWhole (c : Comparing) : Type 0 where
   pub met : length c.met.items ≡ length c.names.keys
@@ -242,15 +245,15 @@ pub record StandsBeside (cases : CampaignView) (before : List Block) (c : Compar
   pub next : (p : ℕ) → has_later cases before p ≡ nat_lt (p + 1) c.next
 
 -- a block was taken in after those before it, and this is wrong with it, if something is
-abbrev pub Judges : {S : Type 0} → (Block → S → Type 0) → Comparing → Judged (Whole S) → Option Wrong → Comparing → Type 0
-Judges says c j wrong after =
-    (cases : CampaignView) (before : List Block) (b : Block) → IsJudgedBlock (IsWholeOfBlock says) b j → has_twice (map (λ t. t.0) cases) ≡ false
+abbrev pub Judges : Comparing → Judged Whole → Option Wrong → Comparing → Type 0
+Judges c j wrong after =
+    (cases : CampaignView) (before : List Block) (b : Block) → IsJudgedBlock IsWholeOfBlock b j → has_twice (map (λ t. t.0) cases) ≡ false
     → StandsBeside cases before c → StandsBeside cases (b ∷ before) after × IsJudged cases before b wrong
 
 -- the same, and what is wrong with it is said after what is said of those before it
-abbrev pub SaysNext : {S : Type 0} → (Block → S → Type 0) → Comparing → Judged (Whole S) → List ℕ → Comparing → List ℕ → Type 0
-SaysNext says c j out after new =
-    (cases : CampaignView) (before : List Block) (b : Block) → IsJudgedBlock (IsWholeOfBlock says) b j → has_twice (map (λ t. t.0) cases) ≡ false
+abbrev pub SaysNext : Comparing → Judged Whole → List ℕ → Comparing → List ℕ → Type 0
+SaysNext c j out after new =
+    (cases : CampaignView) (before : List Block) (b : Block) → IsJudgedBlock IsWholeOfBlock b j → has_twice (map (λ t. t.0) cases) ≡ false
     → StandsBeside cases before c → AreJudged cases before out → StandsBeside cases (b ∷ before) after × AreJudged cases (b ∷ before) new
 
 -- the test case at this place was added, if no block has its name

@@ -6,15 +6,14 @@ ghost use Rattle.tc_blocks.specs.declared.block.Block.{Block};
 ghost use Rattle.tc_reader.specs.Prelude.{CampaignView};
 ghost use Rattle.tc_answer.specs.Prelude.{script_part};
 ghost use Rattle.tc_answer.specs.Inside.{AreReady, IsCaseOf};
-ghost use Rattle.tc_judge.specs.{Compared.IsCheckedAgainst, Compared.IsCourseOf, Compared.IsReportedAgainst, Compared.RefusesAgainst, Compared.note, Compared.place_in, Compared.wrong_text, Inside.AddsIfMissing, Inside.AreComparable, Inside.AreMissing, Inside.Finds, Inside.IsJudgedBlock, Inside.IsWhole, Inside.IsWholeOfBlock, Inside.Judges, Inside.SaysNext, Inside.StandsBeside, declared.compare.Wrong.TheVariants.Missing};
+ghost use Rattle.tc_judge.specs.{Compared.IsCheckedAgainst, Compared.IsCourseOf, Compared.IsReportedAgainst, Compared.RefusesAgainst, Compared.note, Compared.place_in, Compared.wrong_text, Inside.AddsIfMissing, Inside.AreComparable, Inside.AreComparedIn, Inside.AreMissing, Inside.Finds, Inside.IsJudgedBlock, Inside.IsWhole, Inside.IsWholeOfBlock, Inside.Judges, Inside.SaysNext, Inside.StandsBeside, declared.compare.Wrong.TheVariants.Missing};
 
 use crate::check::checked_status;
 use crate::judged::{Judged, first_illegal, judge_text};
-use crate::kept::{Nothing, Says, Whole};
+use crate::kept::Whole;
 use crate::lines::printed_lines;
 use crate::passed::add_name;
-use crate::report::noted_status;
-use crate::text::Answers;
+use crate::report::{noted_status, report_whole};
 use indexmap::IndexSet;
 use std::alloc::Global;
 use tc_answer::{Answer, RunFault, chosen_cases, split_script};
@@ -22,7 +21,6 @@ use tc_command::{Choice, ReportForm};
 use tc_course::is_course;
 use tc_entry::Name;
 use tc_exec::Case;
-use tc_report::Summary;
 use tc_step::Script;
 use tc_text::append_text;
 use tc_verdict::NoMemory;
@@ -68,26 +66,13 @@ fn append_note(out: &mut Vec<u8>, name: &Name, wrong: Wrong) -> Result<(), NoMem
 }
 
 // Whether the block is a complete course of these scripts, with its verdict.
-fn is_course_of<S: Says + Drop>(
-    alloc: Global,
-    scripts: &[Script],
-    block: &Judged<Whole<S>>,
-) -> Result<bool, NoMemory>
+fn is_course_of(alloc: Global, scripts: &[Script], block: &Judged<Whole>) -> Result<bool, NoMemory>
     requires { length scripts.now ≤ BEHAVIOURS }
-    ensures { IfOk result (λ is. (b : Block) → IsJudgedBlock (IsWholeOfBlock S.says) b block.now → (is ≡ true) ↔ IsCourseOf scripts.now b) }
+    ensures { IfOk result (λ is. (b : Block) → IsJudgedBlock IsWholeOfBlock b block.now → (is ≡ true) ↔ IsCourseOf scripts.now b) }
 {
-    let Whole {
-        behaviours,
-        entries,
-        ..
-    } = &block.kept;
-    is_course(
-        alloc,
-        scripts,
-        *behaviours,
-        entries.as_slice(),
-        block.verdict,
-    )
+    let behaviours = block.kept.behaviours;
+    let entries = block.kept.entries.as_slice();
+    is_course(alloc, scripts, behaviours, entries, block.verdict)
 }
 
 // The names of test cases, which are different.
@@ -142,14 +127,10 @@ impl Comparing {
     }
 
     // Takes the next block in, and says what is wrong with it, if something is.
-    fn take<S: Says + Drop>(
-        &mut self,
-        alloc: Global,
-        block: &Judged<Whole<S>>,
-    ) -> Result<Option<Wrong>, NoMemory>
+    fn take(&mut self, alloc: Global, block: &Judged<Whole>) -> Result<Option<Wrong>, NoMemory>
         requires { IsWhole self.old }
         ensures whole { OnOk result (IsWhole self.new) }
-        ensures judged { IfOk result (λ wrong. Judges S.says self.old block.now wrong self.new) }
+        ensures judged { IfOk result (λ wrong. Judges self.old block.now wrong self.new) }
     {
         let Some(place) = self.place_of(&block.name) else {
             return Ok(Some(Wrong::Unknown));
@@ -172,15 +153,15 @@ impl Comparing {
     // Takes the next block in, and appends the line that says what is wrong with it, if something is; if memory runs out, a
     // part of it.
     #[tactic(auto, using(crate::proofs::Beside::saying_rules))]
-    fn append_judged<S: Says + Drop>(
+    fn append_judged(
         &mut self,
         alloc: Global,
         out: &mut Vec<u8>,
-        block: &Judged<Whole<S>>,
+        block: &Judged<Whole>,
     ) -> Result<(), NoMemory>
         requires { IsWhole self.old }
         ensures whole { OnOk result (IsWhole self.new) }
-        ensures says { OnOk result (SaysNext S.says self.old block.now out.old.items self.new out.new.items) }
+        ensures says { OnOk result (SaysNext self.old block.now out.old.items self.new out.new.items) }
     {
         if let Some(wrong) = self.take(alloc, block)? {
             append_note(out, &block.name, wrong)?;
@@ -235,15 +216,15 @@ pub(crate) struct Comparison {
     pub missing: Vec<Name>,
 }
 
-/// What is wrong with the blocks as courses of the test cases.
-pub(crate) fn compare<S: Says + Drop>(
+// What is wrong with the blocks as courses of the test cases.
+fn compare(
     alloc: Global,
     ready: Vec<Case<Script>>,
-    blocks: &[Judged<Whole<S>>],
+    blocks: &[Judged<Whole>],
 ) -> Result<Comparison, NoMemory>
     requires { AreComparable ready.items }
     ensures { IfOk result (λ r. (cases : CampaignView) (all : List Block) → AllZip IsCaseOf cases ready.items
-        → AllZip (IsJudgedBlock (IsWholeOfBlock S.says)) all blocks.now → Finds cases all r) }
+        → AllZip (IsJudgedBlock IsWholeOfBlock) all blocks.now → Finds cases all r) }
 {
     let mut comparing = Comparing::new(alloc, ready)?;
     let mut notes = Vec::new(alloc);
@@ -269,27 +250,39 @@ pub(crate) fn chosen_before(
     chosen_cases(alloc, script, choice)
 }
 
-/// What `check --script` makes of a script with histories and evidence after it: what `check` makes of these, and then what
-/// is wrong with them as courses of the chosen test cases of the script. The status is 3 if something is.
+// The blocks after a script, judged, and what is wrong with them as courses of its chosen test cases.
 #[tactic(auto, using(crate::proofs::Beside::refusing_rules))]
-pub fn compare_text(alloc: Global, choice: &Choice, text: &[u8]) -> Result<Answer, RunFault>
-    ensures done { IfOk result (λ a. IsCheckedAgainst choice.now text.now a.out a.status × (a.told ≡ [])) }
+fn compared(
+    alloc: Global,
+    choice: &Choice,
+    text: &[u8],
+) -> Result<(Vec<Judged<Whole>>, Comparison), RunFault>
+    ensures found { IfOk result (λ r. AreComparedIn choice.now text.now r.0.items r.1) }
     ensures refused { IfErr result (RefusesAgainst choice.now text.now) }
 {
     let ready = chosen_before(alloc, choice, text)?;
     let (_, rest) = split_script(text);
-    let blocks = judge_text::<Whole<Nothing>>(alloc, choice.last, rest)?;
+    let blocks = judge_text::<Whole>(alloc, choice.last, rest)?;
+    let comparison = compare(alloc, ready, blocks.as_slice())?;
+    Ok((blocks, comparison))
+}
+
+/// What `check --script` makes of a script with histories and evidence after it: what `check` makes of these, and then what
+/// is wrong with them as courses of the chosen test cases of the script. The status is 3 if something is.
+pub fn compare_text(alloc: Global, choice: &Choice, text: &[u8]) -> Result<Answer, RunFault>
+    ensures done { IfOk result (λ a. IsCheckedAgainst choice.now text.now a.out a.status × (a.told ≡ [])) }
+    ensures refused { IfErr result (RefusesAgainst choice.now text.now) }
+{
+    let (blocks, comparison) = compared(alloc, choice, text)?;
+    let notes = comparison.notes.as_slice();
     let mut out = printed_lines(alloc, blocks.as_slice(), &[], false)?;
-    let Comparison { notes, missing } = compare(alloc, ready, blocks.as_slice())?;
-    drop(missing);
-    out.extend_from_slice(notes.as_slice())?;
-    let status = noted_status(notes.as_slice(), checked_status(blocks.as_slice()));
+    out.extend_from_slice(notes)?;
+    let status = noted_status(notes, checked_status(blocks.as_slice()));
     Ok(Answer::silent(alloc, out, status))
 }
 
 /// What `report --script` makes of a script with histories and evidence after it: what `report` makes of these, with the
 /// chosen test cases that are missing. What is wrong goes to standard error, and then the status is 3.
-#[tactic(auto, using(crate::proofs::Beside::refusing_rules))]
 pub fn report_compared(
     alloc: Global,
     form: &ReportForm,
@@ -299,19 +292,11 @@ pub fn report_compared(
     ensures done { IfOk result (IsReportedAgainst form.now choice.now text.now) }
     ensures refused { IfErr result (RefusesAgainst choice.now text.now) }
 {
-    let ready = chosen_before(alloc, choice, text)?;
-    let (_, rest) = split_script(text);
-    let blocks = judge_text::<Whole<Summary>>(alloc, choice.last, rest)?;
+    let (blocks, comparison) = compared(alloc, choice, text)?;
+    let Comparison { notes, missing } = comparison;
     let illegal = first_illegal(blocks.as_slice());
-    let Comparison { notes, missing } = compare(alloc, ready, blocks.as_slice())?;
-    let answer = Whole::<Summary>::answer(
-        alloc,
-        form,
-        rest,
-        blocks,
-        illegal,
-        missing.as_slice(),
-        notes,
-    )?;
+    let (_, rest) = split_script(text);
+    let missing = missing.as_slice();
+    let answer = report_whole(alloc, form, rest, blocks, illegal, missing, notes)?;
     Ok(answer)
 }

@@ -2,9 +2,9 @@
 ghost use Rattle.std.specs.Prelude.{◌≡◌, ◌<◌, ◌++◌, ◌∷◌, [], ◌⊎◌, IfOk, IfErr, IfSome, OnOk, false, length, map, position, true};
 ghost use Rattle.std.specs.List.{AllZip};
 ghost use Rattle.tc_reader.specs.Prelude.{is_text};
-ghost use Rattle.tc_blocks.specs.Prelude.{IsReadIn, entry_in, most_of};
+ghost use Rattle.tc_blocks.specs.Prelude.{IsReadIn, most_of};
 ghost use Rattle.tc_report.specs.Prelude.{said_with};
-ghost use Rattle.tc_judge.specs.{Check.IsUnreadIn, Check.RefusesHistory, Check.history_limit, Inside.AreJudgedIn, Inside.IsJudgedBlock, Inside.IsRecorded, Inside.PutsNext, Inside.first_illegal as spec_first, Inside.judged_name, Check.that_count};
+ghost use Rattle.tc_judge.specs.{Check.IsUnreadIn, Check.RefusesHistory, Check.history_limit, Inside.AreJudgedIn, Inside.IsJudgedBlock, Inside.IsRecorded, Inside.IsSummaryOf, Inside.PutsNext, Inside.first_illegal as spec_first, Inside.judged_name, Check.that_count};
 
 use crate::kept::Keeps;
 use crate::passed::add_name;
@@ -18,7 +18,7 @@ use tc_blocks::{
 };
 use tc_command::Choice;
 use tc_entry::Name;
-use tc_report::Said;
+use tc_report::{Said, Summary, summary_of_state};
 use tc_rules::{Entry, NoMemory, Reply, Run, Verdict};
 use tc_text::ShortOp;
 
@@ -80,6 +80,18 @@ pub(crate) struct Recorded {
     pub(crate) said: Said,
 }
 
+impl Recorded {
+    /// What the forms say of the block, if it is legal and was recorded.
+    pub(crate) fn summary(&self, alloc: Global) -> Result<Summary, NoMemory>
+        ensures { IfOk result (λ s. (b : Block) → IsRecorded true b.first_line b.header b.lines self.now → IsSummaryOf b s) }
+    {
+        let Playing { header, state, .. } = &self.playing;
+        let entries = self.entries.as_slice();
+        let summary = summary_of_state(alloc, &header.name, state, entries, &self.said)?;
+        Ok(summary)
+    }
+}
+
 /// The blocks so far, each of which is judged.
 #[derive(Drop)]
 pub(crate) struct Judging<K: Keeps + Drop> {
@@ -99,35 +111,15 @@ fn record<K: Keeps>(entries: &mut Vec<Entry>, entry: Entry) -> Result<(), NoMemo
     Ok(())
 }
 
-// Keeps the line if it is an entry.
-fn keep_entry(entries: &mut Vec<Entry>, line: &Line) -> Result<(), NoMemory>
-    ensures { OnOk result (entries.new.items ≡ entries.old.items ++ entry_in line.now) }
+// Keeps what is said after the entries so far, if entries are asked for; otherwise nothing.
+fn keep_note<K: Keeps>(said: &mut Said, entries: usize, note: Line) -> Result<(), NoMemory>
+    ensures { OnOk result ((K.RECORDS ≡ true → said.new ≡ said_with said.old entries note)
+        × (K.RECORDS ≡ false → said.new ≡ said.old)) }
 {
-    match line {
-        Line::Entry(entry) => {
-            entries.push(entry.copy())?;
-            Ok(())
-        }
-        Line::Named { .. } | Line::Remark { .. } | Line::Refused { .. } => Ok(()),
+    if K::RECORDS {
+        said.take(entries, note)?;
     }
-}
-
-// Keeps the line, as an entry or as what is said after those so far, if entries are asked for; otherwise nothing.
-fn keep_line<K: Keeps>(
-    entries: &mut Vec<Entry>,
-    said: &mut Said,
-    line: Line,
-) -> Result<(), NoMemory>
-    ensures { OnOk result ((K.RECORDS ≡ true → (entries.new.items ≡ entries.old.items ++ entry_in line)
-        × (said.new ≡ said_with said.old (length entries.old.items) line))
-        × (K.RECORDS ≡ false → (entries.new.items ≡ entries.old.items) × (said.new ≡ said.old))) }
-{
-    if !K::RECORDS {
-        return Ok(());
-    }
-    let at = entries.len();
-    keep_entry(entries, &line)?;
-    said.take(at, line)
+    Ok(())
 }
 
 impl<K: Keeps + Drop> TakesEvidence for Judging<K> {
@@ -153,8 +145,10 @@ impl<K: Keeps + Drop> TakesEvidence for Judging<K> {
     }
 
     fn take(begun: &mut Recorded, line: usize, taken: Line) -> Result<(), NoMemory> {
-        begun.playing.take(line, &taken)?;
-        keep_line::<K>(&mut begun.entries, &mut begun.said, taken)
+        match taken {
+            Line::Entry(entry) => Self::take_entry(begun, line, entry),
+            note => keep_note::<K>(&mut begun.said, begun.entries.len(), note),
+        }
     }
 
     fn take_entry(begun: &mut Recorded, line: usize, entry: Entry) -> Result<(), NoMemory> {
@@ -181,12 +175,17 @@ impl<K: Keeps + Drop> TakesEvidence for Judging<K> {
         Ok(())
     }
 
-    fn close(&mut self, begun: Recorded, line: usize, verdict: Verdict) -> Result<(), NoMemory> {
-        let name = begun.playing.name();
+    fn close(
+        &mut self,
+        mut begun: Recorded,
+        line: usize,
+        verdict: Verdict,
+    ) -> Result<(), NoMemory> {
         let judgement = begun.playing.judge(line, verdict);
-        let kept = K::keep(self.alloc, begun)?;
+        let kept = K::keep(self.alloc, &mut begun)?;
+        let Recorded { playing, .. } = begun;
         self.blocks.push(Judged {
-            name,
+            name: playing.header.name,
             verdict,
             judgement,
             kept,
@@ -251,23 +250,6 @@ pub fn counted<B: Named + Drop>(
     }
 }
 
-// The blocks that were judged.
-fn blocks_of<K: Keeps + Drop>(judging: Judging<K>) -> Vec<Judged<K>>
-    ensures { result ≡ judging.blocks }
-{
-    let Judging { alloc: _, blocks } = judging;
-    blocks
-}
-
-// All blocks that the text spells, each judged; otherwise the text's first fault, or NoMemory.
-fn judge_all<K: Keeps + Drop>(alloc: Global, text: &[u8]) -> Result<Vec<Judged<K>>, RunFault>
-    ensures judged { IfOk result (λ v. AreJudgedIn K.keeps false text.now v.items) }
-    ensures refused { IfErr result (RefusesHistory text.now) }
-{
-    let judging: Judging<K> = read_evidence_into(alloc, text)?;
-    Ok(blocks_of(judging))
-}
-
 // How many bytes histories may have: all together, or, if they may be long, each block.
 fn limit_of(long: bool) -> Limit
     ensures is { result ≡ history_limit long }
@@ -280,7 +262,7 @@ fn limit_of(long: bool) -> Limit
     }
 }
 
-// The same of the text of an input, of which only a part is in memory at a time; or why the input was not read.
+// The blocks of the text of an input, of which only a part is in memory at a time; or why the input was not read.
 fn judge_all_input<R: Read, K: Keeps + Drop>(
     alloc: Global,
     limit: Limit,
@@ -292,14 +274,13 @@ fn judge_all_input<R: Read, K: Keeps + Drop>(
         ⊎ IsReadIn limit (R.remaining reader.old) (λ text. RefusesHistory text fault)) }
 {
     match read_evidence_from(alloc, reader, limit) {
-        Ok(Ok(judging)) => Ok(blocks_of(judging)),
+        Ok(Ok(Judging { blocks, .. })) => Ok(blocks),
         Ok(Err(fault)) => Err(RunFault::from(fault)),
         Err(fault) => Err(of_input(fault)),
     }
 }
 
 /// Of the blocks that the text spells those that count, each judged; otherwise the text's first fault, or NoMemory.
-#[tactic(auto, using(crate::proofs::Counting::counted_judged))]
 pub(crate) fn judge_text<K: Keeps + Drop>(
     alloc: Global,
     last: bool,
@@ -308,8 +289,8 @@ pub(crate) fn judge_text<K: Keeps + Drop>(
     ensures judged { IfOk result (λ v. AreJudgedIn K.keeps last text.now v.items) }
     ensures refused { IfErr result (RefusesHistory text.now) }
 {
-    let blocks = judge_all::<K>(alloc, text)?;
-    Ok(counted(alloc, last, blocks)?)
+    let judging: Judging<K> = read_evidence_into(alloc, text)?;
+    Ok(counted(alloc, last, judging.blocks)?)
 }
 
 /// The same of an input, of which only a part is in memory at a time; or why it was not read.
@@ -318,7 +299,8 @@ pub(crate) fn judge_input<R: Read, K: Keeps + Drop>(
     choice: &Choice,
     reader: &mut R,
 ) -> Result<Vec<Judged<K>>, RunFault>
-    ensures judged { IfOk result (λ v. IsReadIn (history_limit choice.now.long) (R.remaining reader.old) (λ text. AreJudgedIn K.keeps choice.now.last text v.items)) }
+    ensures judged { IfOk result (λ v. IsReadIn (history_limit choice.now.long) (R.remaining reader.old)
+        (λ text. AreJudgedIn K.keeps choice.now.last text v.items)) }
     ensures refused { IfErr result (λ fault. IsUnreadIn (history_limit choice.now.long) (R.remaining reader.old) fault
         ⊎ IsReadIn (history_limit choice.now.long) (R.remaining reader.old) (λ text. RefusesHistory text fault)) }
 {

@@ -6,19 +6,10 @@ ghost use Rattle.tc_judge.specs.Inside.{IsRecorded, IsSummaryOf, IsWholeOfBlock,
 
 use crate::judged::Recorded;
 use std::alloc::Global;
+use std::mem;
 use tc_entry::NoMemory;
 use tc_report::Summary;
 use tc_rules::Entry;
-
-/// What is said of a block that was played and recorded.
-pub(crate) trait Says: Sized {
-    /// The value is what is said of the block.
-    ghost says: { Block → Self → Type 0 };
-
-    /// What is said of the block.
-    fn say(alloc: Global, recorded: &Recorded) -> Result<Self, NoMemory>
-        ensures { IfOk result (λ said. (b : Block) → IsRecorded true b.first_line b.header b.lines recorded.now → says b said) };
-}
 
 /// What is kept of a block besides its name, its verdict and its judgement.
 pub(crate) trait Keeps: Sized {
@@ -31,8 +22,9 @@ pub(crate) trait Keeps: Sized {
     ghost keeps: { Block → Self → Type 0 };
 
     /// What is kept of a block that was played, and recorded if it is asked for.
-    fn keep(alloc: Global, recorded: Recorded) -> Result<Self, NoMemory>
-        ensures { IfOk result (λ kept. (b : Block) → IsRecorded RECORDS b.first_line b.header b.lines recorded → keeps b kept) };
+    fn keep(alloc: Global, recorded: &mut Recorded) -> Result<Self, NoMemory>
+        ensures kept { IfOk result (λ kept. (b : Block) → IsRecorded RECORDS b.first_line b.header b.lines recorded.old → keeps b kept) }
+        ensures same { recorded.new.playing ≡ recorded.old.playing };
 }
 
 /// What is kept has what the forms say of the block.
@@ -48,14 +40,6 @@ pub(crate) trait Summarizes: Sized {
 #[derive(Drop)]
 pub(crate) struct Nothing;
 
-impl Says for Nothing {
-    ghost says = { KeepsNothing };
-
-    fn say(_alloc: Global, _recorded: &Recorded) -> Result<Nothing, NoMemory> {
-        Ok(Nothing)
-    }
-}
-
 impl Keeps for Nothing {
     ghost RECORDS = { false };
 
@@ -63,19 +47,8 @@ impl Keeps for Nothing {
 
     ghost keeps = { KeepsNothing };
 
-    fn keep(_alloc: Global, recorded: Recorded) -> Result<Nothing, NoMemory> {
-        drop(recorded);
+    fn keep(_alloc: Global, _recorded: &mut Recorded) -> Result<Nothing, NoMemory> {
         Ok(Nothing)
-    }
-}
-
-impl Says for Summary {
-    ghost says = { IsSummaryOf };
-
-    fn say(alloc: Global, recorded: &Recorded) -> Result<Summary, NoMemory> {
-        let entries = recorded.entries.as_slice();
-        let summary = recorded.playing.summary(alloc, entries, &recorded.said)?;
-        Ok(summary)
     }
 }
 
@@ -86,9 +59,8 @@ impl Keeps for Summary {
 
     ghost keeps = { IsSummaryOf };
 
-    fn keep(alloc: Global, recorded: Recorded) -> Result<Summary, NoMemory> {
-        let said = Summary::say(alloc, &recorded)?;
-        Ok(said)
+    fn keep(alloc: Global, recorded: &mut Recorded) -> Result<Summary, NoMemory> {
+        recorded.summary(alloc)
     }
 }
 
@@ -100,38 +72,35 @@ impl Summarizes for Summary {
     }
 }
 
-/// What is said of a block, and its entries.
+/// What the forms say of a block, and its entries.
 #[derive(Drop)]
-pub(crate) struct Whole<S: Drop> {
-    pub(crate) said: S,
+pub(crate) struct Whole {
+    pub(crate) summary: Summary,
     pub(crate) behaviours: u16,
     pub(crate) entries: Vec<Entry>,
 }
 
-impl<S: Says + Drop> Keeps for Whole<S> {
+impl Keeps for Whole {
     ghost RECORDS = { true };
 
     const RECORDS: bool = true;
 
-    ghost keeps = { IsWholeOfBlock S.says };
+    ghost keeps = { IsWholeOfBlock };
 
-    fn keep(alloc: Global, recorded: Recorded) -> Result<Whole<S>, NoMemory> {
-        let said = S::say(alloc, &recorded)?;
-        let behaviours = recorded.playing.behaviours();
+    fn keep(alloc: Global, recorded: &mut Recorded) -> Result<Whole, NoMemory> {
+        let summary = recorded.summary(alloc)?;
         Ok(Whole {
-            said,
-            behaviours,
-            entries: recorded.entries,
+            summary,
+            behaviours: recorded.playing.header.behaviours,
+            entries: mem::replace(&mut recorded.entries, Vec::new(alloc)),
         })
     }
 }
 
-impl Summarizes for Whole<Summary> {
-    ghost summary = { λ w. w.said };
+impl Summarizes for Whole {
+    ghost summary = { λ w. w.summary };
 
     fn into_summary(self) -> Summary {
-        let Whole { said, entries, .. } = self;
-        drop(entries);
-        said
+        self.summary
     }
 }

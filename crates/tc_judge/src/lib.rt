@@ -9,7 +9,6 @@ mod lines;
 mod passed;
 mod playing;
 mod report;
-mod text;
 
 pub use check::{check_input, check_text};
 pub use compare::{compare_text, report_compared};

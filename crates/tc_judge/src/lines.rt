@@ -2,9 +2,8 @@
 ghost use Rattle.std.specs.Prelude.{◌≡◌, ◌||◌, ◌++◌, IfOk, OnOk, is_some};
 ghost use Rattle.std.specs.List.{list_any};
 ghost use Rattle.tc_answer.specs.Prelude.{have_names};
-ghost use Rattle.tc_text.specs.Prelude.{reply_text};
-ghost use Rattle.tc_rules.specs.Prelude.{matches, name_of};
-ghost use Rattle.tc_judge.specs.{Check.legal_line, Inside.first_illegal as spec_first, Inside.gives_text, Inside.illegal_line, Inside.is_picked as spec_picked, Inside.judged_name, Inside.line_by, Inside.made_line, Inside.printed};
+ghost use Rattle.tc_rules.specs.Prelude.{matches};
+ghost use Rattle.tc_judge.specs.{Check.legal_line, Inside.first_illegal as spec_first, Inside.gives_text, Inside.illegal_line, Inside.is_picked as spec_picked, Inside.judged_name, Inside.line_by, Inside.printed};
 
 use crate::judged::{Judged, Named, first_illegal};
 use crate::playing::Judgement;
@@ -12,7 +11,7 @@ use std::alloc::Global;
 use tc_answer::{append_place, is_asked};
 use tc_entry::{Name, Pattern};
 use tc_report::verdict_status;
-use tc_rules::{NoMemory, Reply, Verdict};
+use tc_rules::{NoMemory, Verdict};
 use tc_text::{append_number, append_text, write_reply};
 use tc_verdict::name as name_of_verdict;
 
@@ -72,52 +71,32 @@ fn append_gives(out: &mut Vec<u8>) -> Result<(), NoMemory>
     append_text(out, ", table gives ")
 }
 
-// Appends the line of an entry with another reply than the table's; if memory runs out, a part of it.
-fn append_other_reply(
-    out: &mut Vec<u8>,
-    line: usize,
-    given: Reply,
-    reply: Reply,
-) -> Result<(), NoMemory>
-    ensures { OnOk result (out.new.items ≡ out.old.items ++ made_line line (reply_text given) (reply_text reply)) }
-{
-    append_place(out, line)?;
-    write_reply(out, &given)?;
-    append_gives(out)?;
-    write_reply(out, &reply)?;
-    out.push(b'\n')?;
-    Ok(())
-}
-
-// Appends the line of another verdict than the table's; if memory runs out, a part of it.
-fn append_other_verdict(
-    out: &mut Vec<u8>,
-    line: usize,
-    given: Verdict,
-    verdict: Verdict,
-) -> Result<(), NoMemory>
-    ensures { OnOk result (out.new.items ≡ out.old.items ++ made_line line (name_of given) (name_of verdict)) }
-{
-    append_place(out, line)?;
-    append_text(out, name_of_verdict(given))?;
-    append_gives(out)?;
-    append_text(out, name_of_verdict(verdict))?;
-    out.push(b'\n')?;
-    Ok(())
-}
-
 /// Appends what is printed for a block that is not legal; if memory runs out, a part of it.
 pub(crate) fn append_illegal(out: &mut Vec<u8>, judgement: Judgement) -> Result<(), NoMemory>
     ensures { OnOk result (out.new.items ≡ out.old.items ++ illegal_line judgement) }
 {
     match judgement {
         Judgement::Legal { .. } => Ok(()),
-        Judgement::OtherReply { line, given, reply } => append_other_reply(out, line, given, reply),
+        Judgement::OtherReply { line, given, reply } => {
+            append_place(out, line)?;
+            write_reply(out, &given)?;
+            append_gives(out)?;
+            write_reply(out, &reply)?;
+            out.push(b'\n')?;
+            Ok(())
+        }
         Judgement::OtherVerdict {
             line,
             given,
             verdict,
-        } => append_other_verdict(out, line, given, verdict),
+        } => {
+            append_place(out, line)?;
+            append_text(out, name_of_verdict(given))?;
+            append_gives(out)?;
+            append_text(out, name_of_verdict(verdict))?;
+            out.push(b'\n')?;
+            Ok(())
+        }
     }
 }
 

@@ -1,8 +1,8 @@
 //! The test cases that a run is asked to run: not those that evidence shows to have passed, if it is given any.
-ghost use Rattle.std.specs.Prelude.{◌≡◌, IfOk, IfErr, OnOk, [], filter, not};
+ghost use Rattle.std.specs.Prelude.{◌≡◌, IfOk, IfErr, OnOk};
 ghost use Rattle.tc_reader.specs.Prelude.{add, among};
 ghost use Rattle.tc_answer.specs.Inside.{AreReadyAs};
-ghost use Rattle.tc_judge.specs.{Compared.RefusesAgainst, Inside.AreReadyToRun, Inside.HasSeen, Inside.passes, Inside.shows_passed, Inside.with_failed, Compared.AreUnpassed, Compared.RefusesRun};
+ghost use Rattle.tc_judge.specs.{Compared.RefusesAgainst, Inside.HasSeen, Inside.passes, Inside.shows_passed, Inside.with_failed, Compared.AreToRun, Compared.AreUnpassed, Compared.RefusesRun};
 
 use crate::compare::chosen_before;
 use crate::judged::{Judged, judge_text};
@@ -49,17 +49,6 @@ fn shows_pass(block: &Judged<Nothing>) -> bool
 }
 
 impl Seen {
-    // No names.
-    fn new(alloc: Global) -> Seen
-        ensures names { result.names.keys ≡ [] }
-        ensures failed { result.failed.keys ≡ [] }
-    {
-        Seen {
-            names: IndexSet::new(alloc),
-            failed: IndexSet::new(alloc),
-        }
-    }
-
     // Takes the next block in.
     fn take(&mut self, block: &Judged<Nothing>) -> Result<(), NoMemory>
         ensures names { OnOk result (self.new.names.keys ≡ add block.now.name self.old.names.keys) }
@@ -84,20 +73,14 @@ impl Seen {
 fn seen_of(alloc: Global, blocks: &[Judged<Nothing>]) -> Result<Seen, NoMemory>
     ensures { IfOk result (HasSeen blocks.now) }
 {
-    let mut seen = Seen::new(alloc);
+    let mut seen = Seen {
+        names: IndexSet::new(alloc),
+        failed: IndexSet::new(alloc),
+    };
     for block in blocks {
         seen.take(block)?;
     }
     Ok(seen)
-}
-
-// The test cases that have not passed, in their order.
-fn unpassed(ready: Vec<Case<Script>>, seen: &Seen) -> Vec<Case<Script>>
-    ensures { result.items ≡ filter (λ k. not (shows_passed seen.now k.name)) ready.items }
-{
-    let mut cases = ready;
-    cases.retain(|case| !seen.has_passed(&case.name));
-    cases
 }
 
 // The chosen test cases of the script but those that have passed by the evidence after it.
@@ -109,11 +92,12 @@ fn unpassed_cases(
     ensures are { IfOk result (λ v. AreReadyAs (AreUnpassed choice.now text.now) v.items) }
     ensures refused { IfErr result (RefusesAgainst choice.now text.now) }
 {
-    let ready = chosen_before(alloc, choice, text)?;
+    let mut cases = chosen_before(alloc, choice, text)?;
     let (_, rest) = split_script(text);
     let blocks = judge_text::<Nothing>(alloc, choice.last, rest)?;
     let seen = seen_of(alloc, blocks.as_slice())?;
-    Ok(unpassed(ready, &seen))
+    cases.retain(|case| !seen.has_passed(&case.name));
+    Ok(cases)
 }
 
 /// The test cases that a run is asked for, of the campaign that the text spells.
@@ -122,7 +106,7 @@ pub fn cases_to_run(
     text: &[u8],
     choice: &Choice,
 ) -> Result<Vec<Case<Script>>, RunFault>
-    ensures are { IfOk result (λ v. AreReadyToRun choice.now text.now v.items) }
+    ensures are { IfOk result (λ v. AreReadyAs (AreToRun choice.now text.now) v.items) }
     ensures refused { IfErr result (RefusesRun choice.now text.now) }
 {
     if choice.failed {

@@ -1,15 +1,12 @@
 //! A block, played as it is read, and calls with short operations.
-ghost use Rattle.std.specs.Prelude.{◌≡◌, [], ℕ, Some, IfOk, OnOk, is_some, reverse};
+ghost use Rattle.std.specs.Prelude.{◌≡◌, [], ℕ, IfOk, OnOk};
 ghost use Rattle.tc_text.specs.Prelude.{op_of};
 ghost use Rattle.tc_blocks.specs.Prelude.{short_entry, IsHeader};
-ghost use Rattle.tc_rules.specs.Prelude.{IsReplyOf, StandsFor, TakesIn};
-ghost use Rattle.tc_report.specs.Prelude.{summary_of};
+ghost use Rattle.tc_rules.specs.Prelude.{IsReplyOf, TakesIn};
 ghost use Rattle.tc_judge.specs.Inside.{IsPlayed, JudgesPlayed, PlaysNext, judges_legal};
 
 use std::alloc::Global;
 use tc_blocks::{Header, Line};
-use tc_entry::Name;
-use tc_report::{Said, Summary, summary_of_state};
 use tc_rules::{CaseState, Entry, NoMemory, Op, Reply, Run, Target, Verdict};
 use tc_text::ShortOp;
 
@@ -82,10 +79,7 @@ impl Judgement {
     pub(crate) fn is_legal(self) -> bool
         ensures { result ≡ judges_legal self }
     {
-        match self {
-            Judgement::Legal { .. } => true,
-            Judgement::OtherReply { .. } | Judgement::OtherVerdict { .. } => false,
-        }
+        matches!(self, Judgement::Legal { .. })
     }
 }
 
@@ -101,44 +95,14 @@ pub(crate) struct Difference {
 /// A block that is played as it is read, up to its first difference.
 #[derive(Drop)]
 pub(crate) struct Playing {
-    header: Header,
-    state: CaseState,
+    pub(crate) header: Header,
+    pub(crate) state: CaseState,
     /// How many entries were played.
     entries: usize,
     difference: Option<Difference>,
 }
 
-// An entry in this line, with another reply than the table's.
-#[inline(always)]
-fn differing(line: usize, given: Reply, reply: Reply) -> Option<Difference>
-    ensures { result ≡ Some (record { line = line; given = given; reply = reply }) }
-{
-    Some(Difference { line, given, reply })
-}
-
 impl Playing {
-    // Whether an entry had another reply than the table's.
-    #[inline(always)]
-    fn has_differed(&self) -> bool
-        ensures { result ≡ is_some self.now.difference }
-    {
-        self.difference.is_some()
-    }
-
-    /// The name of the test case.
-    pub(crate) fn name(&self) -> Name
-        ensures { result ≡ self.now.header.name }
-    {
-        self.header.name.copy()
-    }
-
-    /// How many behaviours the test case had.
-    pub(crate) fn behaviours(&self) -> u16
-        ensures { result ≡ self.now.header.behaviours }
-    {
-        self.header.behaviours
-    }
-
     /// A block with this first line, with no line below it yet.
     pub(crate) fn new(alloc: Global, header: Header) -> Result<Playing, NoMemory>
         requires { IsHeader header }
@@ -158,12 +122,12 @@ impl Playing {
     pub(crate) fn play(&mut self, line: usize, entry: &Entry) -> Result<(), NoMemory>
         ensures { OnOk result (PlaysNext line (Line.Entry entry.now) self.old self.new) }
     {
-        if self.has_differed() {
+        if self.difference.is_some() {
             return Ok(());
         }
         if let Some(reply) = self.state.play_entry(entry)? {
             let given = entry.reply;
-            self.difference = differing(line, given, reply);
+            self.difference = Some(Difference { line, given, reply });
         } else {
             // There are fewer entries than lines.
             self.entries = self.entries.saturating_add(1);
@@ -182,39 +146,16 @@ impl Playing {
     ) -> Result<(), NoMemory>
         ensures { OnOk result (PlaysNext line (Line.Entry (short_entry caller op given)) self.old self.new) }
     {
-        if self.has_differed() {
+        if self.difference.is_some() {
             return Ok(());
         }
         let reply = play_short::<Playing>(&mut self.state, caller, op)?;
         if reply.same(&given) {
             self.entries = self.entries.saturating_add(1);
         } else {
-            self.difference = differing(line, given, reply);
+            self.difference = Some(Difference { line, given, reply });
         }
         Ok(())
-    }
-
-    /// Takes the line with this number: plays it if it is an entry.
-    pub(crate) fn take(&mut self, line: usize, taken: &Line) -> Result<(), NoMemory>
-        ensures { OnOk result (PlaysNext line taken.now self.old self.new) }
-    {
-        match taken {
-            Line::Entry(entry) => self.play(line, entry),
-            Line::Named { .. } | Line::Remark { .. } | Line::Refused { .. } => Ok(()),
-        }
-    }
-
-    /// What the forms say of the block with these entries, next to which this is said, if each of its replies was the table's.
-    pub(crate) fn summary(
-        &self,
-        alloc: Global,
-        entries: &[Entry],
-        said: &Said,
-    ) -> Result<Summary, NoMemory>
-        ensures { StandsFor self.now.state (reverse entries.now)
-            → IfOk result (λ s. s ≡ summary_of self.now.header.name self.now.state.behaviours entries.now said.now) }
-    {
-        summary_of_state(alloc, &self.header.name, &self.state, entries, said)
     }
 
     /// What the table says of the block whose last line has this number, and which gives this verdict.

@@ -3,29 +3,28 @@ ghost use Rattle.std.specs.{Prelude.◌≡◌, Prelude.◌==◌, Prelude.◌++�
 ghost use Rattle.tc_blocks.specs.declared.block.Block.{Block};
 ghost use Rattle.tc_report.specs.Prelude.{bare_summary as bare};
 ghost use Rattle.tc_report.specs.declared.results.CaseEnd.TheVariants.{Missing};
-ghost use Rattle.tc_judge.specs.{Check.AreAllLegal, Check.IsMadeOfBlocks, Check.IsMadeOfInput, Inside.AreJudgedIn, Inside.ArePicked, Inside.IsTextFor, Inside.Reports, Inside.illegal_line, Inside.is_picked as spec_picked, Inside.names_found, Inside.summary_by, Check.is_chosen, Report.AnswersCases, Report.IsForm, Report.IsReport, Report.IsReported, Check.history_limit, Report.is_of_judged as spec_judged};
+ghost use Rattle.tc_judge.specs.{Check.AreAllLegal, Check.IsMadeOfBlocks, Check.IsMadeOfInput, Inside.AreChosenBlocks, Inside.AreJudgedIn, Inside.ArePicked, Inside.IsSummaryOf, Inside.IsTextFor, Inside.IsWholeOfBlock, Inside.Reports, Inside.illegal_line, Inside.is_picked as spec_picked, Inside.judged_text, Inside.names_found, Inside.summary_by, Check.is_chosen, Report.AnswersCases, Report.IsForm, Report.IsReport, Report.IsReported, Check.history_limit, Report.is_of_judged as spec_judged};
 
 use crate::judged::{Judged, first_illegal, judge_input, judge_text};
 use crate::kept::{Summarizes, Whole};
 use crate::lines::{append_illegal, is_picked, name_blocks};
 use crate::playing::Judgement;
-use crate::text::Answers;
 use std::alloc::Global;
 use std::io::Read;
 use tc_answer::{Answer, REFUSED, RunFault, html_page};
 use tc_command::{Choice, ReportForm, VERSION};
 use tc_entry::{Name, Pattern, Sequence};
 use tc_report::{
-    CaseEnd, Summary, Times, bare_summary, csv_report, junit_report, summary_report, worst_status,
+    CaseEnd, Summary, Times, append_closing, append_replayed, bare_summary, csv_report,
+    junit_report, summary_report, worst_status,
 };
 use tc_rules::NoMemory;
 use tc_text::append_text;
 
 // The blocks that are picked, in their order.
-fn picked<K: Drop>(blocks: Vec<Judged<K>>, only: &[Pattern], failed: bool) -> Vec<Judged<K>>
+fn picked<K: Drop>(mut blocks: Vec<Judged<K>>, only: &[Pattern], failed: bool) -> Vec<Judged<K>>
     ensures { result.items ≡ filter (λ j. spec_picked only.now failed j.name j.verdict) blocks.items }
 {
-    let mut blocks = blocks;
     blocks.retain(|block| is_picked(only, failed, &block.name, block.verdict));
     blocks
 }
@@ -53,12 +52,10 @@ fn cases_of<K: Summarizes + Drop>(
 ) -> Result<Vec<Summary>, NoMemory>
     ensures { IfOk result (λ v. v.items ≡ map (summary_by K.summary) blocks.items) }
 {
-    let mut cases = Vec::new(alloc);
-    for block in blocks {
-        let Judged { kept, .. } = block;
-        cases.push(kept.into_summary())?;
-    }
-    Ok(cases)
+    let cases = blocks
+        .into_iter()
+        .map(|Judged { kept, .. }| kept.into_summary());
+    Ok(cases.collect(alloc)?)
 }
 
 // The form of the blocks that the text spells, whose test cases these are.
@@ -131,9 +128,10 @@ fn illegal_answer(alloc: Global, judgement: Judgement) -> Result<Answer, NoMemor
     })
 }
 
-/// The answer for blocks, of which these are the chosen ones, and missing test cases, with lines for standard error. The
-/// text is the one that the form is made of, if it is made of one. If all blocks are legal, the form is written; otherwise the line of `check` for the first that is not is printed.
-pub(crate) fn report_blocks<K: Summarizes + Drop>(
+// The answer for blocks, of which these are the chosen ones, and missing test cases, with lines for standard error. The
+// text is the one that the form is made of, if it is made of one. If all blocks are legal, the form is written; otherwise
+// the line of `check` for the first that is not is printed.
+fn report_blocks<K: Summarizes + Drop>(
     alloc: Global,
     form: &ReportForm,
     text: &[u8],
@@ -156,20 +154,58 @@ pub(crate) fn report_blocks<K: Summarizes + Drop>(
     }
 }
 
-// What `report` makes of the blocks of a text.
-fn reported<K: Answers>(
+// The text report of the blocks.
+fn text_report(alloc: Global, blocks: &[Judged<Whole>]) -> Result<Vec<u8>, NoMemory>
+    ensures { IfOk result (λ v. v.items ≡ judged_text blocks.now) }
+{
+    let mut out = Vec::new(alloc);
+    let mut verdicts = Vec::new(alloc);
+    for block in blocks {
+        let (kept, verdict) = (&block.kept, block.verdict);
+        let entries = kept.entries.as_slice();
+        append_replayed(&mut out, &kept.summary, kept.behaviours, entries, verdict)?;
+        verdicts.push(verdict)?;
+    }
+    append_closing(&mut out, verdicts.as_slice())?;
+    Ok(out)
+}
+
+/// The same of blocks of which all is kept: the text report is made of them.
+pub(crate) fn report_whole(
+    alloc: Global,
+    form: &ReportForm,
+    text: &[u8],
+    chosen: Vec<Judged<Whole>>,
+    illegal: Option<Judgement>,
+    missing: &[Name],
+    notes: Vec<u8>,
+) -> Result<Answer, NoMemory>
+    ensures { IfOk result (λ a. (given : List ℕ) (blocks of : List Block) → (AreAllLegal blocks → text.now ≡ given)
+        → AreChosenBlocks IsWholeOfBlock blocks of chosen.items illegal
+        → IsReport form.now given blocks of missing.now notes.items a) }
+{
+    if let ReportForm::Text = form {
+        let report = text_report(alloc, chosen.as_slice())?;
+        let text = report.as_slice();
+        return report_blocks(alloc, form, text, chosen, illegal, missing, notes);
+    }
+    report_blocks(alloc, form, text, chosen, illegal, missing, notes)
+}
+
+// What `report` makes of the blocks of a text, in another form than the text report.
+fn reported(
     alloc: Global,
     form: &ReportForm,
     choice: &Choice,
     text: &[u8],
-    blocks: Vec<Judged<K>>,
+    blocks: Vec<Judged<Summary>>,
 ) -> Result<Answer, RunFault>
-    ensures { (given : List ℕ) → ((chosen : List Block) → K.fits form.now given chosen text.now)
-        → AreJudgedIn K.kept_of choice.now.last given blocks.items
+    ensures { (given : List ℕ) → ((chosen : List Block) → IsTextFor form.now given chosen text.now)
+        → AreJudgedIn IsSummaryOf choice.now.last given blocks.items
         → IsMadeOfBlocks choice.now given (IsReported form.now choice.now.last (is_chosen choice.now) given) result }
 {
     let (chosen, illegal) = pick(choice, blocks)?;
-    let answer = K::answer(alloc, form, text, chosen, illegal, &[], Vec::new(alloc))?;
+    let answer = report_blocks(alloc, form, text, chosen, illegal, &[], Vec::new(alloc))?;
     Ok(answer)
 }
 
@@ -177,10 +213,7 @@ fn reported<K: Answers>(
 pub fn is_of_judged(form: &ReportForm) -> bool
     ensures { result ≡ spec_judged form.now }
 {
-    match form {
-        ReportForm::Text | ReportForm::Html => false,
-        ReportForm::Csv | ReportForm::Junit(_) | ReportForm::Summary => true,
-    }
+    !matches!(form, ReportForm::Text | ReportForm::Html)
 }
 
 /// What `report` makes of a text of histories and evidence, each block of which is replayed on a table of its own. If all
@@ -196,8 +229,11 @@ pub fn report_text(
 {
     match form {
         ReportForm::Text => {
-            let blocks = judge_text::<Whole<Summary>>(alloc, choice.last, text)?;
-            reported(alloc, form, choice, text, blocks)
+            let blocks = judge_text::<Whole>(alloc, choice.last, text)?;
+            let (chosen, illegal) = pick(choice, blocks)?;
+            let notes = Vec::new(alloc);
+            let answer = report_whole(alloc, form, text, chosen, illegal, &[], notes)?;
+            Ok(answer)
         }
         _ => {
             let blocks = judge_text::<Summary>(alloc, choice.last, text)?;

@@ -59,7 +59,7 @@ fn append_model(
     add_distinct(alloc, cases, block.header.name.copy())?;
     if let Some(name) = cases.as_slice().last() {
         let lines = block.lines.as_slice();
-        append_case(text, name, runs.as_slice(), lines)?;
+        append_case(alloc, text, name, runs.as_slice(), lines)?;
     }
     if text.len() > limit {
         text.truncate(size);

@@ -1,5 +1,6 @@
 //! The text of a model.
 use crate::following::{ModelRun, is_step, named_by};
+use std::alloc::Global;
 use tc_blocks::Line;
 use tc_entry::{Comp, Entry, Name, NoMemory, Op, Reply};
 use tc_text::{append_number, append_text, write_op};
@@ -94,41 +95,46 @@ fn append_step(
     Ok(())
 }
 
-// Appends the behaviour of a run: its steps among the lines.
-fn append_behaviour(
-    out: &mut Vec<u8>,
-    runs: &[ModelRun],
-    own: &ModelRun,
-    lines: &[Line],
-) -> Result<(), NoMemory> {
-    append_text(out, "behaviour ")?;
-    append_name(out, &own.name)?;
-    append_parameters(out, own.given.as_slice())?;
-    append_text(out, "\n")?;
+// The lines of the steps of each run.
+fn steps_of(alloc: Global, runs: &[ModelRun], lines: &[Line]) -> Result<Vec<Vec<u8>>, NoMemory> {
+    let mut texts = Vec::new(alloc);
+    for _ in runs {
+        texts.push(Vec::new(alloc))?;
+    }
     for line in lines {
         if let Line::Entry(entry) = line {
-            if entry.caller == own.run && is_step(&entry.op) {
-                append_text(out, "  ")?;
-                append_step(out, runs, own.on, entry)?;
-                append_text(out, "\n")?;
+            let at = usize::from(entry.caller.0);
+            if at < runs.len() && at < texts.len() && is_step(&entry.op) {
+                append_text(&mut texts[at], "  ")?;
+                append_step(&mut texts[at], runs, runs[at].on, entry)?;
+                append_text(&mut texts[at], "\n")?;
             }
         }
     }
-    append_text(out, "end\n")
+    Ok(texts)
 }
 
 /// Appends the test case of this name and these runs, whose steps are among the lines.
 pub(crate) fn append_case(
+    alloc: Global,
     out: &mut Vec<u8>,
     name: &Name,
     runs: &[ModelRun],
     lines: &[Line],
 ) -> Result<(), NoMemory> {
+    let texts = steps_of(alloc, runs, lines)?;
     append_text(out, "testcase ")?;
     out.extend_from_slice(name.bytes())?;
     append_text(out, "\n")?;
-    for own in runs {
-        append_behaviour(out, runs, own, lines)?;
+    for (at, own) in runs.iter().enumerate() {
+        append_text(out, "behaviour ")?;
+        append_name(out, &own.name)?;
+        append_parameters(out, own.given.as_slice())?;
+        append_text(out, "\n")?;
+        if let Some(steps) = texts.get(at) {
+            out.extend_from_slice(steps.as_slice())?;
+        }
+        append_text(out, "end\n")?;
     }
     append_text(out, "end\n")
 }

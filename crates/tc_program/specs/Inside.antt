@@ -1,5 +1,5 @@
 -- What the functions inside of the program say, which no public clause names.
-use Rattle.std.specs.{Prelude.{ℕ, ◌≡◌, ◌≢◌, ◌&&◌, All, Bool, MatchBool, false, Option, Result, Ok, Err, MatchResult, List, [], ◌∷◌, ◌++◌, length, map, reverse}, Io.KnownBytes.{Appends, Keeps}, List.flat_map, Option.option_map_or}
+use Rattle.std.specs.{Prelude.{ℕ, ◌≡◌, ◌≢◌, ◌&&◌, All, Bool, MatchBool, false, true, filter, Option, Result, Ok, Err, MatchResult, List, [], ◌∷◌, ◌++◌, length, map, reverse}, Io.KnownBytes.{Appends, Keeps}, List.flat_map, Option.option_map_or}
 use Rattle.clap.specs.declared.error.kind.ErrorKind.{ErrorKind}
 use Rattle.clap.specs.declared.error.kind.ErrorKind.TheVariants as Kinds
 use Rattle.tc_explain.specs.Prelude.{explanation}
@@ -7,14 +7,14 @@ use Rattle.tc_rules.specs.Prelude.{IsName, Entry, StandsFor, answer, IsOneHistor
 use Rattle.tc_stream.specs.Prelude.{AppendsPrefix}
 use Rattle.tc_text.specs.Prelude.{Move, Line, TellsAmong, reply_text}
 use Rattle.tc_step.specs.Prelude.{ScriptView}
-use Rattle.tc_blocks.specs.{Prelude.{AreEntries, AreLines, IsHeader, IsReadIn}, declared.header.Kind.Kind}
+use Rattle.tc_blocks.specs.{Prelude.{AreEntries, AreLines, IsHeader, IsReadIn}, declared.{block.Block.Block, header.Kind.Kind}}
 use Rattle.tc_report.specs.{Inside.{case_lines, finished_header}, declared.results.{Finished.Finished, Results.Results}}
 use Rattle.tc_exec.specs.declared.test_case.Case.{Case}
 use Rattle.tc_answer.specs.{Prelude.{CaseView, Streams, held_streams, number_of, run_fault_line}, Inside.IsCaseOf, declared.{fault.RunFault.RunFault, outcome.Outcome.Outcome, reply.Answer.Answer}}
-use Rattle.tc_judge.specs.Prelude.{IsMadeOfInput, legal_line}
-use Rattle.tc_command.specs.declared.{read.Refused.Refused, task.{ExploreOptions.ExploreOptions, Task.Task}}
+use Rattle.tc_judge.specs.Prelude.{IsMadeOfInput, counting, is_chosen, legal_line}
+use Rattle.tc_command.specs.declared.{read.Refused.Refused, task.{Choice.Choice, ExploreOptions.ExploreOptions, Task.Task}}
 use Rattle.tc_run.specs.Prelude.{LeavesUnwritten}
-use Rattle.tc_program.specs.{Alone.IsNotBegun, Answer.IsRefused, Explained.{explains, is_of_text, part_of}, Explore.{IsExplored, TellsLocals}, Limits.{has_blocks, limit_of}, Made.IsMade, Program.IsDone, declared.{explore.ExploredCase.ExploredCase, replaying.Replaying.Replaying}}
+use Rattle.tc_program.specs.{Alone.IsNotBegun, Answer.IsRefused, Explained.{explains, is_of_text, part_of}, Explore.{IsExplored, TellsLocals}, Limits.{has_blocks, limit_of}, Made.IsMade, Model.{AnswersBlocks, are_named}, Program.IsDone, declared.{explore.ExploredCase.ExploredCase, replaying.Replaying.Replaying}}
 
 -- the caller, and the call
 abbrev pub move_of : Entry → Move
@@ -79,6 +79,13 @@ TellsLocalsIf asked states scripts before after = MatchBool asked (TellsLocals s
 -- the line of a test case in a list
 abbrev pub case_line : {B : Type 0} → Case B → List ℕ
 case_line k = k.name ++ (10 ∷ [])
+
+-- this is made of these blocks for their models
+abbrev pub IsMadeOf : Choice → List Block → Result Answer RunFault → Type 0
+IsMadeOf choice all (Ok a) = AnswersBlocks (filter (is_chosen choice) (counting choice.last all)) a × (are_named choice (counting choice.last all) ≡ true)
+IsMadeOf choice all (Err RunFault.Only) = are_named choice (counting choice.last all) ≡ false
+IsMadeOf choice all (Err RunFault.NoMemory) = Unit {0}
+IsMadeOf choice all (Err fault) = ⊥
 
 -- the answer is what a task makes of the text
 abbrev pub Makes : Task → List ℕ → Answer → Type 0

@@ -16,6 +16,7 @@ has_blocks task = false
 -- the histories of a task may be long: its text is not kept
 abbrev pub is_long : Task → Bool
 is_long (Task.Check choice explains) = choice.long
+is_long (Task.Model choice explains) = choice.long
 is_long (Task.Report form choice explains) = choice.long && is_of_judged form
 is_long task = false
 

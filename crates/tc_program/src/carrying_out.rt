@@ -11,7 +11,7 @@ use crate::explore::explore_text;
 use crate::limits::text_limit;
 use crate::listing::list_text;
 use crate::made::finish;
-use crate::model::model_text;
+use crate::model::{model_input, model_text};
 use crate::replaying::replay_text;
 use crate::serve::serve_input;
 use std::alloc::Global;
@@ -117,12 +117,12 @@ pub(crate) fn made_in_parts<I: Read>(
             }
             Some(report_input(alloc, form, choice, reader))
         }
+        Task::Model { choice, .. } => Some(model_input(alloc, choice, reader)),
         Task::Replay { .. }
         | Task::Run(_)
         | Task::Serve
         | Task::List { .. }
         | Task::Compare { .. }
-        | Task::Model { .. }
         | Task::Explore(_) => None,
     }
 }

@@ -25,7 +25,7 @@ pub(crate) fn is_long(task: &Task) -> bool
     ensures { result ≡ spec_long task.now }
 {
     match task {
-        Task::Check { choice, .. } => choice.long,
+        Task::Check { choice, .. } | Task::Model { choice, .. } => choice.long,
         Task::Report { form, choice, .. } => choice.long && is_of_judged(form),
         _ => false,
     }

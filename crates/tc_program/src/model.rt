@@ -1,11 +1,13 @@
 //! The subcommand `model`.
-ghost use Rattle.std.specs.Prelude.{◌≡◌, IfOk, IfErr, filter};
-ghost use Rattle.tc_judge.specs.Prelude.{is_chosen};
-ghost use Rattle.tc_program.specs.Model.{AnswersBlocks, IsModelled, RefusesModel};
+ghost use Rattle.std.specs.Prelude.{◌≡◌, ◌<◌, IfOk, MatchResult, filter};
+ghost use Rattle.tc_judge.specs.Prelude.{IsMadeOfInput, history_limit, is_chosen};
+ghost use Rattle.tc_blocks.specs.Prelude.{most_of};
+ghost use Rattle.tc_program.specs.{Inside.IsMadeOf, Model.AnswersBlocks, Model.IsModelled, Model.RefusesModel};
 
 use std::alloc::Global;
-use tc_answer::{Answer, REFUSED, RunFault, SCRIPT_LIMIT};
-use tc_blocks::{Block, read_evidence};
+use std::io::Read;
+use tc_answer::{Answer, HISTORY_LIMIT, REFUSED, RunFault, SCRIPT_LIMIT, of_input};
+use tc_blocks::{Block, Limit, read_evidence, read_evidence_from};
 use tc_command::Choice;
 use tc_entry::{NoMemory, Sequence};
 use tc_judge::{counted, is_picked, patterns_match};
@@ -36,15 +38,54 @@ fn answer(alloc: Global, blocks: Vec<Block>) -> Result<Answer, NoMemory>
     })
 }
 
-/// What `model` makes of a text of histories and evidence: of the chosen blocks that count the script of which they are
-/// complete courses, and a line for each block that has none. Each pattern has to match the name of one.
-pub(crate) fn model_text(alloc: Global, choice: &Choice, text: &[u8]) -> Result<Answer, RunFault>
-    ensures done { IfOk result (IsModelled choice.now text.now) }
-    ensures refused { IfErr result (RefusesModel choice.now text.now) }
+// What is made of these blocks: of the chosen among those that count the script of which they are complete courses, and a
+// line for each block that has none. Each pattern has to match the name of one that counts.
+fn model_blocks(alloc: Global, choice: &Choice, blocks: Sequence<Block>) -> Result<Answer, RunFault>
+    ensures { IsMadeOf choice.now blocks result }
 {
-    let blocks = counted(alloc, choice.last, read_evidence(alloc, text)?.into_vec())?;
+    let blocks = counted(alloc, choice.last, blocks.into_vec())?;
     if !patterns_match(blocks.as_slice(), choice.only.as_slice()) {
         return Err(RunFault::Only);
     }
     Ok(answer(alloc, chosen(blocks, choice))?)
+}
+
+/// What `model` makes of a text of histories and evidence.
+#[tactic(auto, using(crate::proofs::Modelling::modelled_text))]
+pub(crate) fn model_text(alloc: Global, choice: &Choice, text: &[u8]) -> Result<Answer, RunFault>
+    ensures { MatchResult result (IsModelled choice.now text.now) (RefusesModel choice.now text.now) }
+{
+    match read_evidence(alloc, text) {
+        Ok(blocks) => model_blocks(alloc, choice, blocks),
+        Err(fault) => Err(RunFault::from(fault)),
+    }
+}
+
+// How many bytes histories may have: all together, or, if they may be long, each block.
+fn limit_of(long: bool) -> Limit
+    ensures is { result ≡ history_limit long }
+    ensures most { most_of result < usize.MAX }
+{
+    if long {
+        Limit::Blocks(HISTORY_LIMIT)
+    } else {
+        Limit::Whole(HISTORY_LIMIT)
+    }
+}
+
+/// The same of an input, of which only the blocks are in memory.
+#[tactic(auto, using(crate::proofs::Modelling::modelled_input))]
+pub(crate) fn model_input<R: Read>(
+    alloc: Global,
+    choice: &Choice,
+    reader: &mut R,
+) -> Result<Answer, RunFault>
+    ensures { IsMadeOfInput (history_limit choice.now.long) (R.remaining reader.old)
+        (λ text made. MatchResult made (IsModelled choice.now text) (RefusesModel choice.now text)) result }
+{
+    match read_evidence_from(alloc, reader, limit_of(choice.long)) {
+        Ok(Ok(blocks)) => model_blocks(alloc, choice, blocks),
+        Ok(Err(fault)) => Err(RunFault::from(fault)),
+        Err(fault) => Err(of_input(fault)),
+    }
 }

@@ -76,6 +76,7 @@ ttrun check --shard 2/3 --script --only b --only a => check --script --only=b --
 ttrun model => model
 ttrun model --last --only a* --failed --only b => model --only=a* --only=b --failed --last
 ttrun model --explain --last => model --last --explain
+ttrun model --long --last => model --last --long
 ttrun replay --explain => replay --explain
 ttrun report --explain --junit => report --junit --explain
 ttrun report --explain --script --csv --only a* => report --csv --script --only=a* --explain

@@ -1,7 +1,7 @@
 -- What is made of a start, and of the behaviours of a test case, when the runs of the starts are set.
 use Rattle.std.{proofs.Common.{ℕ, suc, ◌≡◌, ◌∙◌, Bool, true, false, Option, Some, None, List, [], ◌∷◌, ◌++◌, length, map, All, refl, sym, ap, subst, arith}, specs.{Prelude.{◌||◌, if◌then◌else◌}, List.list_any, Option.option_map}}
 use Rattle.tc_step.specs.{declared.{place.Place.Place, step.Step.Step}, Prelude.ScriptView}
-use Rattle.tc_reader.specs.{Campaign.{CampaignView, behaviours, place, step_of, steps}, Inside.{MadeView, MakeScripts, MakesScript, all_filled, behaviour_ended, case_ended, filled, finished, if_bound, left_of, step_if_bound, with_last}, Names.{Word, add, all_of, index_of}, Scope.Head, SecondPass.is_unbound, declared.line.{Call.Call, Line.Line}}
+use Rattle.tc_reader.specs.{Campaign.{CampaignView, behaviours, place, step_of, steps}, Inside.{MadeView, MakeScripts, MakesScript, all_filled, behaviour_ended, case_ended, filled, finished, if_bound, left_of, started_of, step_if_bound, with_last}, Names.{Word, add, all_of, index_of}, Scope.Head, SecondPass.is_unbound, declared.{line.{Call.Call, Line.Line}, made.Start.Start}}
 
 pub start_made : (ns : List Word) (call : Call) (on : Place Word) (b : Word) (args : List (Place Word)) (p : Place ℕ) (ps : List (Place ℕ)) → call ≡ Call.Start on b args
     → (if is_unbound ns on then None else Some (place ns on)) ≡ Some p → if_bound ns args (map (place ns) args) ≡ Some ps → Some (Step.Start p (record { 0 = 0 }) ps) ≡ step_if_bound ns call
@@ -13,6 +13,28 @@ start_made ns call on b args p ps at here all = rw at (by (is_unbound ns on) (li
     by true y e f = absurd cc
     by false true e f = absurd cc
     by false false e f = let one : place ns on ≡ p = cc in let two : map (place ns) args ≡ ps = cc in rw (one, two) refl
+
+-- ---- steps and no start
+
+filled_none : (hs : List Head) (steps : List Step) → steps ≡ filled hs steps []
+filled_none hs [] = refl
+filled_none hs (Step.Start on run args ∷ steps) = ap (λ xs. Step.Start on run args ∷ xs) (filled_none hs steps)
+filled_none hs (s ∷ steps) = ap (λ xs. s ∷ xs) (filled_none hs steps)
+
+left_none : (steps : List Step) → [] ≡ left_of steps []
+left_none [] = refl
+left_none (Step.Start on run args ∷ steps) = left_none steps
+left_none (s ∷ steps) = left_none steps
+
+no_start : (starts : List Start) → length starts ≡ 0 → started_of starts ≡ []
+no_start [] e = refl
+no_start (s ∷ starts) e = absurd (omega (arith, e))
+
+pub all_as_they_were : (hs : List Head) (steps : List Step) (starts : List Start) → length starts ≡ 0 → steps ≡ filled hs steps (started_of starts)
+all_as_they_were hs steps starts e = rw (no_start starts e) (filled_none hs steps)
+
+pub none_left_over : (steps : List Step) (starts : List Start) → length starts ≡ 0 → started_of starts ≡ left_of steps (started_of starts)
+none_left_over steps starts e = rw (no_start starts e) (left_none steps)
 
 -- ---- the end of a test case
 

@@ -1,5 +1,5 @@
 -- The test for a name, what a name is, and that each keyword is read from its spelling.
-use Rattle.std.{proofs.{Common.{ℕ, ◌≡◌, ◌≢◌, ◌≤◌, Bool, true, false, Some, List, [], ◌∷◌, length, codes, refl, arith, rules, tests}, lemmas.Bool.Decides.{nat_tests, Decides-by_and}}, specs.{Prelude.{◌&&◌, ◌||◌, not, nat_eq, nat_le, IsTrue, All, IfSome, slice_get}, Bool.Decides, Char.is_ascii_alphabetic, Cmp.Lexicographic.{bytes_decides, pointwise}, List.list_all}}
+use Rattle.std.{proofs.{Common.{ℕ, ◌≡◌, ◌≢◌, ◌≤◌, Bool, true, false, Some, List, [], ◌∷◌, length, codes, refl, ap, arith, rules, tests}, lemmas.Bool.Decides.{nat_tests, Decides-by_and}}, specs.{Prelude.{◌==◌, ◌&&◌, ◌||◌, not, nat_eq, nat_le, IsTrue, All, IfSome, slice_get}, Bool.Decides, Char.is_ascii_alphabetic, Cmp.Lexicographic.{bytes_decides, pointwise}, List.list_all}}
 use Rattle.tc_entry.specs.{declared.limits.TheConstants.NAME_BYTES, Prelude.{IsName, is_name_byte}}
 use Rattle.tc_step.specs.declared.step.Status.{Status}
 use Rattle.tc_reader.specs.{Inside.keyword_text, Words.{is_text, begins_with_letter, is_name, keyword}, declared.line.Keyword.Keyword}
@@ -28,6 +28,13 @@ other_is word text differ = by (pointwise nat_eq word text) (bytes_decides word 
   where
     by : (b : Bool) → (b ≡ true → word ≡ text) → b ≡ false
     by true f = absurd (differ (f refl))
+    by false f = refl
+
+pub other_length : (word text : List ℕ) → (length word == length text) ≡ false → pointwise nat_eq word text ≡ false
+other_length word text e = by (pointwise nat_eq word text) (bytes_decides word text).0
+  where
+    by : (b : Bool) → (b ≡ true → word ≡ text) → b ≡ false
+    by true f = let long : length word ≡ length text = ap length (f refl) in absurd (grind (arith, nat_tests, e, long))
     by false f = refl
 
 first_letter : (word : List ℕ) → begins_with_letter word ≡ true → IfSome (slice_get word 0) (λ b. IsTrue (is_ascii_alphabetic b)) × (1 ≤ length word)

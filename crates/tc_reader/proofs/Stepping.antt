@@ -1,8 +1,8 @@
 -- What the commonest lines say, and what the walk makes of them.
-use Rattle.std.{proofs.{Common.{ℕ, ◌≡◌, ◌∙◌, ◌+◌, get_or, Bool, true, false, Some, None, Ok, Err, List, [], ◌∷◌, ◌++◌, length, All, refl, sym, ap, arith, codes, tests}, lemmas.{Bool.Decides.{Decides-by_and, nat_tests}, List.Splits.slice_split_none}}, specs.{Prelude.{◌==◌, ◌&&◌, nat_le, if◌then◌else◌, is_some, IsTrue}, Cmp.Lexicographic.bytes_decides, List.{list_all, slice_split}, Option.option_map_or}}
+use Rattle.std.{proofs.{Common.{ℕ, ◌≡◌, ◌∙◌, get_or, Bool, true, false, Some, None, Ok, Err, List, [], ◌∷◌, ◌++◌, length, refl, sym, ap, arith, codes, tests}, lemmas.{Bool.Decides.{Decides-by_and, nat_tests}, List.Splits.slice_split_none}}, specs.{Prelude.{◌==◌, ◌&&◌, nat_le, if◌then◌else◌, is_some, IsTrue}, Cmp.Lexicographic.bytes_decides, List.{list_all, list_any, slice_split}, Option.option_map_or}}
 use Rattle.tc_entry.specs.Prelude.{IsName, UserVerdict, given, is_name_byte, name_of}
-use Rattle.tc_step.specs.declared.{place.{Place.Place, TargetPlace.TargetPlace}, step.{Status.Status, Step.Step}}
-use Rattle.tc_reader.{specs.{Campaign.step_of, FirstPass.{argument_count, open_after}, Inside.{IsStepOf, IsTargetOf, Takes, WalkView, after, counted, counted_with, fault_in, keyword_text, made_step, place_in, with_made_step}, Line.{are_printable, form, line_of, reference, target_named, word_name}, Names.{Word, among, index_of}, Text.words, Words.{is_name, is_text, keyword, name, verdict}, declared.{counts.{Counts.Counts, Open.Open}, fault.ReadFault.ReadFault, kind.ScriptKind.ScriptKind, line.{Call.Call, Keyword.Keyword, Line.Line}}}, proofs.Naming.{name_is_found, name_is_said, other_is}}
+use Rattle.tc_step.specs.{declared.{place.{Place.Place, TargetPlace.TargetPlace}, step.{Status.Status, Step.Step}}, Prelude.{of_target, target_map}}
+use Rattle.tc_reader.{specs.{Campaign.{place, step_of}, FirstPass.{argument_count, open_after}, Inside.{IsStepOf, IsTargetOf, Takes, WalkView, after, counted, counted_with, fault_in, if_bound, keyword_text, place_in, with_made_step}, Line.{are_printable, form, line_of, reference, target_named, word_name}, Names.{Word, among, index_of}, SecondPass.is_unbound, Text.words, Words.{is_name, is_text, keyword, name, verdict}, declared.{counts.{Counts.Counts, Open.Open}, fault.ReadFault.ReadFault, kind.ScriptKind.ScriptKind, line.{Call.Call, Keyword.Keyword, Line.Line}}}, proofs.Naming.{name_is_found, name_is_said, other_is}}
 
 same : (line text : List ℕ) → is_text line text ≡ true → line ≡ text
 unfolding is_text
@@ -43,26 +43,30 @@ unfolding line_of words is_text keyword are_printable form
 asks Status.Running word t one is = rw (one.is_one, one.is_printable, one.is_some, is) refl
 asks _ word t one is = rw (one.is_one, one.is_printable, one.is_some, is) refl
 
+waits : (word : List ℕ) (t : TargetPlace (Place Word)) → IsOne word → target_named word ≡ Ok t → line_of (codes "wait done " ++ word) ≡ Ok (Line.Step (Call.Wait false t))
+unfolding line_of words is_text keyword are_printable form
+waits word t one is = rw (one.is_one, one.is_printable, one.is_some, is) refl
+
 named_by : (ns : List Word) (word text : List ℕ) (t : TargetPlace (Place ℕ)) (named : TargetPlace (Place Word)) → is_text word text ≡ true → IsOne text → target_named text ≡ Ok named
-    → ((s : Status) → made_step ns (Call.Ask s named) ≡ Ok (Step.Ask s t)) → IsTargetOf ns word t
-named_by ns word text t named e one is made =
-    record { target = named; is = λ s. rw (same word text e) (asks s text named one is); is_made = made }
+    → if_bound ns (of_target named) (target_map (place ns) named) ≡ Some t → IsTargetOf ns word t
+named_by ns word text t named e one is bound =
+    record { target = named; is = λ s. rw (same word text e) (asks s text named one is); is_wait = rw (same word text e) (waits text named one is); is_bound = bound }
 
 pub own : (ns : List Word) (word : List ℕ) → is_text word (codes "self") ≡ true → IsTargetOf ns word (TargetPlace.One Place.Own)
 unfolding target_named reference is_text step_of
-own ns word e = named_by ns word _ _ (TargetPlace.One Place.Own) e (record { is_some = refl; is_one = refl; is_printable = refl }) refl (λ s. refl)
+own ns word e = named_by ns word _ _ (TargetPlace.One Place.Own) e (record { is_some = refl; is_one = refl; is_printable = refl }) refl refl
 
 pub main : (ns : List Word) (word : List ℕ) → is_text word (codes "mtc") ≡ true → IsTargetOf ns word (TargetPlace.One Place.Main)
 unfolding target_named reference is_text step_of
-main ns word e = named_by ns word _ _ (TargetPlace.One Place.Main) e (record { is_some = refl; is_one = refl; is_printable = refl }) refl (λ s. refl)
+main ns word e = named_by ns word _ _ (TargetPlace.One Place.Main) e (record { is_some = refl; is_one = refl; is_printable = refl }) refl refl
 
 pub any : (ns : List Word) (word : List ℕ) → is_text word (codes "any") ≡ true → IsTargetOf ns word TargetPlace.Any
 unfolding target_named is_text step_of
-any ns word e = named_by ns word _ _ TargetPlace.Any e (record { is_some = refl; is_one = refl; is_printable = refl }) refl (λ s. refl)
+any ns word e = named_by ns word _ _ TargetPlace.Any e (record { is_some = refl; is_one = refl; is_printable = refl }) refl refl
 
 pub all : (ns : List Word) (word : List ℕ) → is_text word (codes "all") ≡ true → IsTargetOf ns word TargetPlace.All
 unfolding target_named is_text step_of
-all ns word e = named_by ns word _ _ TargetPlace.All e (record { is_some = refl; is_one = refl; is_printable = refl }) refl (λ s. refl)
+all ns word e = named_by ns word _ _ TargetPlace.All e (record { is_some = refl; is_one = refl; is_printable = refl }) refl refl
 
 allowed_byte : (b : ℕ) → IsTrue (is_name_byte b) → ((nat_le 32 b && nat_le b 126) ≡ true) × ((b == 32) ≡ false)
 allowed_byte b h = (grind (arith, nat_tests, tests, h), grind (arith, nat_tests, tests, h))
@@ -81,13 +85,12 @@ unfolding target_named reference word_name
 target_of word is =
     rw (other_is word (codes "any") is.not_any, other_is word (codes "all") is.not_all, other_is word (codes "mtc") is.not_mtc, other_is word (codes "self") is.not_self, name_is_found word is) refl
 
-made_by : (ns : List Word) (word : Word) (i : ℕ) (s : Status) → place_in ns word ≡ Some i
-    → made_step ns (Call.Ask s (TargetPlace.One (Place.Bound word))) ≡ Ok (Step.Ask s (TargetPlace.One (Place.Bound i)))
-unfolding step_of
-made_by ns word i s at = by (among word ns) refl at
+bound_at : (ns : List Word) (word : Word) (i : ℕ) → place_in ns word ≡ Some i
+    → if_bound ns (Place.Bound word ∷ []) (TargetPlace.One (Place.Bound (index_of word ns))) ≡ Some (TargetPlace.One (Place.Bound i))
+bound_at ns word i at = by (among word ns) refl at
   where
     by : (b : Bool) → among word ns ≡ b → (if b then Some (index_of word ns) else None) ≡ Some i
-        → made_step ns (Call.Ask s (TargetPlace.One (Place.Bound word))) ≡ Ok (Step.Ask s (TargetPlace.One (Place.Bound i)))
+        → if_bound ns (Place.Bound word ∷ []) (TargetPlace.One (Place.Bound (index_of word ns))) ≡ Some (TargetPlace.One (Place.Bound i))
     by true found e = let same : index_of word ns ≡ i = cc in rw (found, same) refl
     by false found e = absurd cc
 
@@ -101,24 +104,47 @@ bound_name ns word n i named at = by (is_name word) refl named
         record {
           target = TargetPlace.One (Place.Bound word);
           is = λ s. asks s word _ (one_name word one) (target_of word one);
-          is_made = λ s. made_by ns word i s (ap (place_in ns) same ∙ at);
+          is_wait = waits word _ (one_name word one) (target_of word one);
+          is_bound = bound_at ns word i (ap (place_in ns) same ∙ at);
         }
     by false e is = absurd cc
 
 pub ruleset target_rules = (own, main, any, all, bound_name)
 
+-- what is made of a call that names bound components
+made_of : (ns : List Word) (target : TargetPlace (Place Word)) (t : TargetPlace (Place ℕ)) (f : TargetPlace (Place ℕ) → Step) → if_bound ns (of_target target) (target_map (place ns) target) ≡ Some t
+    → option_map_or (λ s. Ok s) (if_bound ns (of_target target) (f (target_map (place ns) target))) (Err ScriptKind.NoReference) ≡ Ok (f t)
+made_of ns target t f e = by (list_any (is_unbound ns) (of_target target)) e
+  where
+    by : (b : Bool) → (if b then None else Some (target_map (place ns) target)) ≡ Some t
+        → option_map_or (λ s. Ok s) (if b then None else Some (f (target_map (place ns) target))) (Err ScriptKind.NoReference) ≡ Ok (f t)
+    by true e = absurd cc
+    by false e = let same : target_map (place ns) target ≡ t = cc in rw same refl
+
 pub ask : (ns : List Word) (line word : List ℕ) (s : Status) (t : TargetPlace (Place ℕ)) → line ≡ keyword_text (Keyword.Ask s) ++ 32 ∷ word → IsTargetOf ns word t
     → IsStepOf ns line (Step.Ask s t)
+unfolding step_of
 ask ns line word s t e is = record {
   call = Call.Ask s is.target;
   is = rw e (is.is s);
-  is_made = is.is_made s;
+  is_made = made_of ns is.target t (Step.Ask s) is.is_bound;
   gives_none = refl;
   binds_none = λ _. refl;
   starts_none = λ _ _. refl;
 }
 
-pub ruleset ask_rules = (ask)
+pub wait : (ns : List Word) (line word : List ℕ) (t : TargetPlace (Place ℕ)) → line ≡ codes "wait done " ++ word → IsTargetOf ns word t → IsStepOf ns line (Step.Wait false t)
+unfolding step_of
+wait ns line word t e is = record {
+  call = Call.Wait false is.target;
+  is = rw e is.is_wait;
+  is_made = made_of ns is.target t (Step.Wait false) is.is_bound;
+  gives_none = refl;
+  binds_none = λ _. refl;
+  starts_none = λ _ _. refl;
+}
+
+pub ruleset ask_rules = (ask, wait)
 
 -- ---- what the walk makes of it
 

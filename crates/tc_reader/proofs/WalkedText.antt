@@ -1,9 +1,9 @@
 -- Walking over the lines of a text, and what the commonest lines say.
-use Rattle.std.{proofs.{Common.{ℕ, suc, ◌≡◌, ◌≤◌, ◌∙◌, ◌+◌, ◌^◌, Bool, true, false, Option, Some, None, Result, Ok, Err, List, [], ◌∷◌, ◌++◌, length, All, refl, sym, ap, subst, arith, append_assoc}, lemmas.{Bool.Decides.nat_tests, List.{append-nil, length-append, reverse-append}}}, specs.{Prelude.{◌||◌, nat_le, nat_lt, reverse, if◌then◌else◌}, Option.option_map_or}}
+use Rattle.std.{proofs.{Common.{ℕ, ◌≡◌, ◌≤◌, ◌∙◌, ◌+◌, ◌^◌, Bool, true, false, Option, Some, None, Result, Ok, Err, List, [], ◌∷◌, ◌++◌, length, refl, sym, ap, subst, arith, append_assoc}, lemmas.{Bool.Decides.nat_tests, List.{append-nil, reverse-append}}}, specs.{Prelude.{◌||◌, nat_le, nat_lt, reverse, if◌then◌else◌}, Option.option_map_or}}
 use Rattle.tc_entry.specs.declared.limits.TheConstants.{ARGUMENTS}
 use Rattle.tc_step.specs.declared.limits.TheConstants.{STEPS}
-use Rattle.tc_reader.specs.{Campaign.CampaignView, Campaign.Reads, Campaign.campaign, Campaign.cases, FirstPass.argument_count, FirstPass.cases_in, FirstPass.ends_well, Inside.judged, FirstPass.open_after, FirstPass.opened, FirstPass.parsed, FirstPass.steps_in, Inside.IsCampaign, Inside.IsWithin, Inside.MayTake, Inside.Takes, Inside.WalkView, Inside.after, Inside.begins, Inside.counted, Inside.counted_with, Inside.counts_of, Inside.ended, Inside.fault_at_end, Inside.fault_in, Inside.may_end as text_may_end, Line.line_of, Line.◌>>=◌, Scope.bound, SecondPass.misnamed, Inside.BeginsWith, Text.lines as lines_of, declared.counts.Counts.Counts, declared.fault.ReadFault.ReadFault, declared.fault.ScriptFault.ScriptFault, declared.kind.ScriptKind.ScriptKind, declared.line.Line.Line, declared.counts.Open.Open, declared.text.Part.Part}
-use Rattle.tc_reader.proofs.{Lawful.{case_names, cases_are}, Placed.few_names, Skipping.{Agrees, counted_agrees, skipped_agrees}, Sound.onto, Taking.few_lines, Walked.{IsWalked, all_cases, cases_end, may_end, named_end, walked_first, walked_more, walked_skipped}}
+use Rattle.tc_reader.specs.{Campaign.CampaignView, Campaign.Reads, Campaign.campaign, Campaign.cases, FirstPass.argument_count, FirstPass.cases_in, FirstPass.ends_well, Inside.judged, FirstPass.open_after, FirstPass.opened, FirstPass.parsed, FirstPass.steps_in, Inside.IsCampaign, Inside.IsWithin, Inside.MayTake, Inside.Takes, Inside.WalkView, Inside.after, Inside.begins, Inside.counted, Inside.counted_with, Inside.counts_of, Inside.ended, Inside.fault_at_end, Inside.fault_in, Inside.may_end as text_may_end, Line.line_of, Line.◌>>=◌, Scope.bound, SecondPass.misnamed, Text.lines as lines_of, declared.counts.Counts.Counts, declared.fault.ReadFault.ReadFault, declared.fault.ScriptFault.ScriptFault, declared.kind.ScriptKind.ScriptKind, declared.line.Line.Line, declared.counts.Open.Open}
+use Rattle.tc_reader.proofs.{Lawful.{case_names, cases_are}, Placed.few_names, Skipping.{Agrees, counted_agrees}, Sound.onto, Taking.few_lines, Walked.{IsWalked, all_cases, cases_end, may_end, named_end, walked_first, walked_more}}
 
 -- what was read of a text: some lines, after which these are left
 pub record IsRead (w : WalkView) (counts : Counts) (number : ℕ) (texts : List (List ℕ)) (total : Result (List Line) ScriptFault) : Type 0 where
@@ -84,34 +84,6 @@ read_more w next counts more number texts rest total bytes is at takes =
           subst (λ (v : WalkView). IsWalked v (takes.0 ∷ is.past)) (ap (λ n. after n takes.0 w) (sym is.numbered) ∙ sym takes.3)
           (walked_more takes.0 w is.past is.walked agrees.0);
     }
-
--- lines that say nothing
-read_silent : (silent : List (List ℕ)) (w : WalkView) (counts : Counts) (number after : ℕ) (rest : List (List ℕ)) (total : Result (List Line) ScriptFault)
-    → IsRead w counts number (silent ++ rest) total → All (λ line. line_of line ≡ Ok Line.Skipped) silent → after ≡ number + length silent → IsRead w counts after rest total
-read_silent [] w counts number after rest total is are next =
-    let same : number ≡ after = omega (arith, next) in
-    subst (λ (n : ℕ). IsRead w counts n rest total) same is
-read_silent (line ∷ silent) w counts number after rest total is are next =
-    let here : line_of line ≡ Ok Line.Skipped = are 0 line (omega arith) in
-    let one : parsed is.past (line ∷ (silent ++ rest)) ≡ parsed (Line.Skipped ∷ is.past) (silent ++ rest) = rw here refl in
-    read_silent silent w counts (number + 1) after rest total
-    (record {
-      past = Line.Skipped ∷ is.past;
-      counted_so = is.counted_so ∙ (skipped_agrees is.past).1;
-      numbered = omega (arith, is.numbered);
-      few = grind (arith, is.few);
-      so_far = sym one ∙ is.so_far;
-      walked = walked_skipped w is.past is.walked;
-    })
-    (λ i d lt. are (suc i) d (omega (arith, lt))) (omega (arith, next))
-
-pub fewer_left : (more : ℕ) (texts rest : List (List ℕ)) → BeginsWith (Part.Skipped more) texts rest → length texts ≡ suc more + length rest
-fewer_left more texts rest begins = ap length begins.1 ∙ length-append begins.0 rest ∙ ap (λ n. n + length rest) begins.2
-
-pub read_skips : (w : WalkView) (counts : Counts) (number many after : ℕ) (texts rest : List (List ℕ)) (total : Result (List Line) ScriptFault)
-    → IsRead w counts number texts total → BeginsWith (Part.Skipped many) texts rest → after ≡ number + suc many → IsRead w counts after rest total
-read_skips w counts number many after texts rest total is begins next =
-    read_silent begins.0 w counts number after rest total (subst (λ (ts : List (List ℕ)). IsRead w counts number ts total) begins.1 is) begins.3 (omega (arith, next, begins.2))
 
 -- ---- a fault of a line
 

@@ -1,9 +1,9 @@
 -- What the walk over the lines of a script has found so far, and what one more line makes of it; and what else the
 -- functions inside say.
-use Rattle.std.specs.{Prelude.{◌+◌, ◌≡◌, ◌||◌, nat_le, nat_lt, Bool, if◌then◌else◌, Result, Ok, Err, List, [], ◌∷◌, ◌++◌, length, ℕ, ◌==◌, ◌&&◌, not, is_some, Option, Some, None, map, ◌≤◌, ◌<◌, false, All, zero, suc, codes}, List.list_any, Option.{option_map, option_map_or, option_or}, Result.result_map_both}
+use Rattle.std.specs.{Prelude.{◌+◌, ◌≡◌, ◌||◌, nat_le, nat_lt, Bool, if◌then◌else◌, Result, Ok, Err, List, [], ◌∷◌, ◌++◌, length, ℕ, ◌==◌, ◌&&◌, not, is_some, Option, Some, None, map, ◌≤◌, ◌<◌, false, All, codes}, List.list_any, Option.{option_map, option_map_or, option_or}, Result.result_map_both}
 use Rattle.tc_entry.specs.declared.limits.TheConstants.{ARGUMENTS, BEHAVIOURS}
-use Rattle.tc_step.specs.{declared.{limits.TheConstants.STEPS, place.{Place.Place, TargetPlace.TargetPlace}, step.{Status.Status, Step.Step}}, Prelude.{of_group, of_target, IsScript, ScriptView}}
-use Rattle.tc_reader.specs.{Campaign.{CampaignView, IsCase, step_of, steps}, FirstPass.{argument_count, at_next, behaviours_in, cases_in, ends_well, open_after, opened, placed, steps_in}, Line.{line_of, word_name, ◌>>=◌}, Names.{Word, add, all_of, among, has_twice, index_of}, Scope.{Head, ScopeView, heads, parameters_of, with_bound}, SecondPass.{is_unbound, name_fault}, declared.{counts.{Counts.Counts, Open.Open}, fault.{ReadFault.ReadFault, ScriptFault.ScriptFault}, kind.ScriptKind.ScriptKind, limits.TheConstants.TEST_CASES, line.{Call.Call, Keyword.Keyword, Line.Line}, starts.Start.Start, text.Part.Part}}
+use Rattle.tc_step.specs.{declared.{limits.TheConstants.STEPS, place.{Place.Place, TargetPlace.TargetPlace}, step.{Status.Status, Step.Step}}, Prelude.{of_group, of_target, target_map, IsScript, ScriptView}}
+use Rattle.tc_reader.specs.{Campaign.{CampaignView, IsCase, place, step_of, steps}, FirstPass.{argument_count, at_next, behaviours_in, cases_in, ends_well, open_after, opened, placed, steps_in}, Line.{line_of, word_name, ◌>>=◌}, Names.{Word, add, all_of, among, has_twice, index_of}, Scope.{Head, ScopeView, heads, parameters_of, with_bound}, SecondPass.{is_unbound, name_fault}, declared.{counts.{Counts.Counts, Open.Open, TheConstants.TEST_CASES}, fault.{ReadFault.ReadFault, ScriptFault.ScriptFault}, kind.ScriptKind.ScriptKind, line.{Call.Call, Keyword.Keyword, Line.Line}, made.Start.Start}}
 
 -- the behaviours of a test case: their names, and the numbers of their parameters
 abbrev pub signatures : List (Word × ScriptView) → List Head
@@ -335,33 +335,6 @@ is_space b = b == 32
 abbrev pub is_some_text : List ℕ → Bool
 is_some_text w = not (length w == 0)
 
--- that many spaces, and then these bytes
-abbrev pub spaces : ℕ → List ℕ → List ℕ
-spaces zero bytes = bytes
-spaces (suc n) bytes = 32 ∷ spaces n bytes
-
--- the bytes of a text are these after some spaces
-pub record IsIndented (text bytes : List ℕ) : Type 0 where
-  pub many : ℕ
-  pub is : text ≡ spaces many bytes
-
--- a text is these bytes after some that end no line
-pub record HasBefore (text rest : List ℕ) : Type 0 where
-  pub before : List ℕ
-  pub none : All (λ b. is_newline b ≡ false) before
-  pub is : text ≡ before ++ rest
-
--- the first of these lines says nothing, and these are left
-pub record SkipsOne (ls left : List (List ℕ)) : Type 0 where
-  pub line : List ℕ
-  pub is : ls ≡ line ∷ left
-  pub silent : line_of line ≡ Ok Line.Skipped
-
--- the first n of these lines say nothing, and these are left
-abbrev pub Skips : ℕ → List (List ℕ) → List (List ℕ) → Type 0
-Skips zero ls left = ls ≡ left
-Skips (suc n) ls left = (more : List (List ℕ)) × SkipsOne ls more × Skips n more left
-
 -- the spelling of a keyword
 abbrev pub keyword_text : Keyword → List ℕ
 keyword_text Keyword.TestCase = codes "testcase"
@@ -393,10 +366,5 @@ pub record IsStepOf (ns : List Word) (bytes : List ℕ) (s : Step) : Type 0 wher
 pub record IsTargetOf (ns : List Word) (word : List ℕ) (t : TargetPlace (Place ℕ)) : Type 0 where
   pub target : TargetPlace (Place Word)
   pub is : (s : Status) → line_of (keyword_text (Keyword.Ask s) ++ 32 ∷ word) ≡ Ok (Line.Step (Call.Ask s target))
-  pub is_made : (s : Status) → made_step ns (Call.Ask s target) ≡ Ok (Step.Ask s t)
-
--- the lines begin with this part, lines that say nothing or one line, and these are left
-abbrev pub BeginsWith : Part → List (List ℕ) → List (List ℕ) → Type 0
-BeginsWith (Part.Skipped more) ls left =
-    (silent : List (List ℕ)) × (ls ≡ silent ++ left) × (length silent ≡ suc more) × All (λ line. line_of line ≡ Ok Line.Skipped) silent
-BeginsWith (Part.Line line) ls left = ls ≡ line.now ∷ left
+  pub is_wait : line_of (codes "wait done " ++ word) ≡ Ok (Line.Step (Call.Wait false target))
+  pub is_bound : if_bound ns (of_target target) (target_map (place ns) target) ≡ Some t

@@ -3,10 +3,12 @@ ghost use Rattle.std.specs.Prelude.{◌≡◌};
 ghost use Rattle.tc_reader.specs.FirstPass.{argument_count, open_after as spec_open_after};
 ghost use Rattle.tc_reader.specs.declared.line.{Call.Call, Line.Line};
 
-use crate::limits::TEST_CASES;
 use crate::{Call, Line, ScriptKind};
 use tc_entry::{ARGUMENTS, BEHAVIOURS};
 use tc_step::STEPS;
+
+/// The most test cases of a script.
+pub const TEST_CASES: usize = 1000;
 
 /// What is open before a line.
 #[derive(Clone, Copy, Debug, PartialEq, Eq)]

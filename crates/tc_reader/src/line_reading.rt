@@ -201,6 +201,16 @@ pub fn read_line<'t>(
 ) -> Result<Line, LineFault>
     ensures { Gives result (line_of line.now) }
 {
+    // The shortest lines need no words.
+    if line.is_empty() {
+        return Ok(Line::Skipped);
+    }
+    if is_comment(line) {
+        return Ok(Line::Skipped);
+    }
+    if is_word(line, b"end") {
+        return Ok(Line::End);
+    }
     read_words(line, words)?;
     let Some((first, rest)) = words.as_slice().split_first() else {
         return Ok(Line::Skipped);

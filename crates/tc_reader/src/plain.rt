@@ -1,5 +1,5 @@
 //! The commonest lines, as they are usually written: each is made a step at once, and not cut into words.
-ghost use Rattle.std.specs.Prelude.{◌≡◌, ◌++◌, ◌∷◌, List, ℕ, IfSome};
+ghost use Rattle.std.specs.Prelude.{◌≡◌, ◌++◌, ◌∷◌, List, ℕ, IfSome, codes};
 ghost use Rattle.tc_reader.specs.{Inside.IsStepOf, Inside.IsTargetOf, Inside.keyword_text, declared.line.Keyword.Keyword};
 
 use crate::Step;
@@ -40,6 +40,29 @@ fn plain_status(line: &[u8]) -> Option<(Status, &[u8])>
     }
 }
 
+/// The bytes after the last space, if the line waits until components are done.
+#[inline(always)]
+fn plain_wait(line: &[u8]) -> Option<&[u8]>
+    ensures { IfSome result (λ word. line.now ≡ codes "wait done " ++ word.now) }
+{
+    match line {
+        [
+            b'w',
+            b'a',
+            b'i',
+            b't',
+            b' ',
+            b'd',
+            b'o',
+            b'n',
+            b'e',
+            b' ',
+            word @ ..,
+        ] => Some(word),
+        _ => None,
+    }
+}
+
 /// The component that the word names by its name, which is bound.
 #[inline(never)]
 #[tactic(auto, using(crate::proofs::Stepping::target_rules))]
@@ -70,15 +93,21 @@ fn plain_target(bound: &Names, word: &[u8]) -> Option<TargetPlace>
     }
 }
 
-/// The step of the line, if it asks for a status or for a verdict or sets one, with one space between its words and none
-/// around them, and names what is bound.
+/// The step of the line, if it asks for a status or for a verdict, sets one, or waits until components are done. One space
+/// is between its words and none around them, and it names what is bound.
 #[inline(always)]
 #[tactic(auto, using(crate::proofs::Stepping::ask_rules))]
 pub(crate) fn plain_step(bound: &Names, line: &[u8]) -> Option<Step>
     ensures { IfSome result (λ step. IsStepOf bound.now line.now step) }
 {
-    match plain_status(line) {
-        Some((status, word)) => Some(Step::Ask(status, plain_target(bound, word)?)),
+    if let Some((status, word)) = plain_status(line) {
+        return Some(Step::Ask(status, plain_target(bound, word)?));
+    }
+    match plain_wait(line) {
+        Some(word) => Some(Step::Wait {
+            killed: false,
+            target: plain_target(bound, word)?,
+        }),
         None => plain_verdict(line),
     }
 }

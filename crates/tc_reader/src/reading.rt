@@ -5,8 +5,9 @@ ghost use Rattle.tc_reader.specs.{Campaign.IsCase, Campaign.Reads, Campaign.camp
 use crate::campaign::Campaign;
 use crate::counts::{Counts, Open};
 use crate::fault::{ReadFault, ScriptFault};
+use crate::plain::plain_step;
 use crate::walk::Walk;
-use crate::{LineFault, Lines, Part, ScriptKind, read_line};
+use crate::{LineFault, Lines, ScriptKind, read_line};
 use std::alloc::Global;
 
 // Takes the line of this number by its words.
@@ -53,12 +54,12 @@ fn take_line<'t>(
     requires may_take { MayTake counts walk.old }
     ensures taken { Takes number counts walk.old walk.new result (line_of text.now) }
 {
-    let Some(step) = walk.plain_step(text) else {
+    let Some(step) = plain_step(walk.names.bound(), text) else {
         return take_words(alloc, walk, counts, number, text, words);
     };
     match counts.with_step() {
         Ok(counts) => {
-            walk.add_step(step)?;
+            walk.made.add_step(step)?;
             Ok(counts)
         }
         Err(kind) => Err(ReadFault::Script(ScriptFault { line: number, kind })),
@@ -87,24 +88,19 @@ fn walk_lines(alloc: Global, text: &[u8], walk: &mut Walk) -> Result<(), ReadFau
     let mut words = Vec::new(alloc);
     let mut rest = Lines::new(text);
     let mut line = 1;
-    while let Some(part) = rest.next_part() {
-        match part {
-            Part::Skipped(more) => line += usize::from(more) + 1,
-            Part::Line(bytes) => {
-                counts = match take_line(alloc, walk, counts, line, bytes, &mut words) {
-                    Ok(counts) => counts,
-                    Err(fault) => return Err(fault),
-                };
-                line += 1;
-            }
-        }
+    while let Some(bytes) = rest.next() {
+        counts = match take_line(alloc, walk, counts, line, bytes, &mut words) {
+            Ok(counts) => counts,
+            Err(fault) => return Err(fault),
+        };
+        line += 1;
     }
     if !counts.has_ended() {
         let kind = ScriptKind::Cut;
         return Err(ReadFault::Script(ScriptFault { line, kind }));
     }
     walk.end(alloc)?;
-    match walk.fault() {
+    match walk.fault {
         Some(fault) => Err(ReadFault::Script(fault)),
         None => Ok(()),
     }
@@ -117,11 +113,7 @@ pub fn read_campaign(alloc: Global, bytes: &[u8]) -> Result<Campaign, ReadFault>
     ensures cases { IfOk result (λ c. All (λ t. IsCase t.1) c) }
 {
     let mut walk = Walk::new(alloc);
-    match walk_lines(alloc, bytes, &mut walk) {
-        Ok(()) => Ok(walk.into_campaign()),
-        Err(fault) => {
-            drop(walk);
-            Err(fault)
-        }
-    }
+    walk_lines(alloc, bytes, &mut walk)?;
+    let Walk { made, .. } = walk;
+    Ok(made.into_campaign())
 }

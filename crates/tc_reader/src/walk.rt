@@ -1,24 +1,21 @@
 //! What one walk over the lines of a script finds: its test cases, and the first fault of names.
-ghost use Rattle.std.specs.Prelude.{◌≡◌, OnOk, IfSome, if◌then◌else◌, is_some};
-ghost use Rattle.tc_reader.specs.Inside.{IsStepOf, IsWithin, MayEnd, after, begins, ended, or_fault, with_made_step, with_start};
+ghost use Rattle.std.specs.Prelude.{◌≡◌, OnOk, if◌then◌else◌, is_some};
+ghost use Rattle.tc_reader.specs.Inside.{IsWithin, MayEnd, after, begins, ended, or_fault, with_start};
 
-use crate::campaign::Campaign;
 use crate::fault::ScriptFault;
-use crate::made::Made;
-use crate::plain::plain_step;
+use crate::made::{Made, Start, first_wrong};
 use crate::scope::Scope;
-use crate::starts::{Start, first_wrong};
-use crate::{Call, Line, Name, ScriptKind, Step};
+use crate::{Call, Line, Name, ScriptKind};
 use std::alloc::{AllocError, Global};
 use std::marker::Model;
 
 /// The names so far, the first fault of names, the starts that are still to be looked up, and what is made.
 #[derive(Drop)]
 pub(crate) struct Walk {
-    names: Scope,
-    fault: Option<ScriptFault>,
+    pub names: Scope,
+    pub fault: Option<ScriptFault>,
     starts: Vec<Start>,
-    made: Made,
+    pub made: Made,
 }
 
 impl Model for Walk {
@@ -42,37 +39,6 @@ impl Walk {
         }
     }
 
-    /// The first fault of names.
-    pub(crate) fn fault(&self) -> Option<ScriptFault>
-        ensures { result ≡ self.now.fault }
-    {
-        self.fault
-    }
-
-    /// The test cases that have ended.
-    pub(crate) fn into_campaign(self) -> Campaign
-        ensures { result ≡ self.made.done }
-    {
-        let Walk { made, .. } = self;
-        made.into_campaign()
-    }
-
-    /// The step of a line that `plain_step` knows.
-    #[inline(always)]
-    pub(crate) fn plain_step(&self, line: &[u8]) -> Option<Step>
-        ensures { IfSome result (λ step. IsStepOf self.now.names.bound line.now step) }
-    {
-        plain_step(self.names.bound(), line)
-    }
-
-    /// Continues after a line of which this is the step.
-    #[inline(always)]
-    pub(crate) fn add_step(&mut self, step: Step) -> Result<(), AllocError>
-        ensures { OnOk result (self.new ≡ with_made_step step self.old) }
-    {
-        self.made.add_step(step)
-    }
-
     // Keeps the fault of a line, if there is none before.
     fn note(&mut self, line: usize, kind: Option<ScriptKind>)
         ensures { self.new ≡ record self.old { fault = or_fault self.old.fault line kind } }
@@ -87,14 +53,12 @@ impl Walk {
         ensures { OnOk result (self.new
             ≡ record self.old { starts = if is_some self.old.fault then self.old.starts else with_start self.old.starts line call.now }) }
     {
-        if let (
-            None,
-            Call::Start {
-                behaviour,
-                args,
-                ..
-            },
-        ) = (self.fault, call)
+        if let Call::Start {
+            behaviour,
+            args,
+            ..
+        } = call
+            && self.fault.is_none()
         {
             self.starts.push(Start {
                 line,
@@ -109,14 +73,14 @@ impl Walk {
         requires within { IsWithin self.old.names.bound (Line.Step call.now) }
         ensures { OnOk result (self.new ≡ after line (Line.Step call.now) self.old) }
     {
-        match self.names.step_of(call) {
+        match self.names.take_call(call)? {
             Ok(step) => {
                 self.keep_start(line, call)?;
                 self.made.add_step(step)?;
             }
             Err(kind) => self.note(line, Some(kind)),
         }
-        self.names.take_call(call)
+        Ok(())
     }
 
     fn take_behaviour(
@@ -128,9 +92,8 @@ impl Walk {
     ) -> Result<(), AllocError>
         ensures { OnOk result (self.new ≡ after line (Line.Behaviour name.now parameters.now) self.old) }
     {
-        let kind = self.names.fault_of_behaviour(name, parameters);
+        let kind = self.names.take_behaviour(name, parameters)?;
         self.note(line, kind);
-        self.names.take_behaviour(alloc, name, parameters)?;
         self.made.begin_behaviour(alloc, name, parameters.len())
     }
 
@@ -139,9 +102,8 @@ impl Walk {
         ensures { OnOk result (self.new ≡ after line (Line.TestCase name.now) self.old) }
     {
         self.end(alloc)?;
-        let kind = self.names.fault_of_case(name);
+        let kind = self.names.take_case(name)?;
         self.note(line, kind);
-        self.names.take_case(alloc, name)?;
         self.made.begin_case(name);
         Ok(())
     }

@@ -3,7 +3,7 @@ use Rattle.std.{proofs.{Common.{ℕ, ◌≡◌, ◌∙◌, ◌+◌, arith, List,
 use Rattle.tc_stream.specs.Prelude.{AppendsPrefix}
 use Rattle.tc_blocks.specs.{Prelude.{end_text, entry_line, with_lf, header_text, line_text}, declared.{header.Header.Header, line.Line.Line}}
 use Rattle.tc_rules.specs.{declared.refusal.CaseError.CaseError, Prelude.{Entry, Verdict, refusal_text}}
-use Rattle.tc_report.specs.{Blocks.named_block, Csv.{columns_text, row_line}, Inside.{form_text, namings, text_so_far}, Live.{closing_text, part_text}, Output.LeavesPrefix, Report.{abort_text, tally_of_cases}, Summary.case_summary, declared.{fault.OutFault.OutFault, live_form.LiveForm.LiveForm, results.{CampaignEnd.CampaignEnd, Finished.Finished}}}
+use Rattle.tc_report.specs.{Blocks.named_block, Csv.{columns_text, row_line}, Inside.{form_text, namings, text_so_far}, Live.{closing_text, part_text}, Output.LeavesPrefix, Report.{abort_text, tally_of_cases}, Summary.case_summary, declared.{fault.OutFault.OutFault, live.LiveForm.LiveForm, results.{CampaignEnd.CampaignEnd, Finished.Finished}}}
 
 -- two texts, one after the other
 pub appends_both : (a b c : Option (List ℕ)) (xs ys : List ℕ) → Appends a b xs → Appends b c ys → Appends a c (xs ++ ys)

@@ -15,22 +15,16 @@ cause_by remarks history at e = record {
   again = started_before (reverse (take at history)) e.op e.reply;
 }
 
--- the entry that decided the verdict of a history, and its caller
-unfoldable pub deciding_cause : List Remark → List Entry → Option Cause
-deciding_cause remarks history = option_and_then (λ at. option_map (cause_by remarks history at) (slice_get history at)) (deciding (reverse history))
-
--- what is said of a test case with this end: nothing if it is not over, and nothing if its verdict is none or pass
+-- what decided the verdict of a test case with this end: nothing if it is not over, and nothing if its verdict is none or pass
 abbrev pub cause_of : CaseEnd → List Remark → List Entry → Option Cause
-cause_of (CaseEnd.Over v) remarks history = if nat_lt 1 (level_of v) then deciding_cause remarks history else None
+cause_of (CaseEnd.Over v) remarks history =
+    if nat_lt 1 (level_of v) then option_and_then (λ at. option_map (cause_by remarks history at) (slice_get history at)) (deciding (reverse history)) else None
 cause_of ending remarks history = None
 
--- the run that decided, its component, if it is on one, and the call
-unfoldable pub cause_text : Names → Cause → List ℕ
-cause_text names c =
-    let on = λ (k : Comp). (if k.0 == 0 then codes " on " else codes " on component ") ++ component_in names k.0 in
-    codes "run " ++ (run_in names c.entry.caller.0 ++ (option_map_or on c.comp [] ++ (codes ": " ++ named_call names c.entry.op c.entry.reply)))
-
--- what decided the verdict: the call, what its error means, and what was said right before and right after it
-abbrev pub decided_text : Names → Cause → List ℕ
+-- what decided the verdict: the run, its component, if it is on one, the call, what its error means, and what was said right before
+-- and right after it
+unfoldable pub decided_text : Names → Cause → List ℕ
 decided_text names c =
-    cause_text names c ++ (meaning_text names c.again c.entry.reply ++ flat_map (λ s. codes ": \"" ++ (s ++ codes "\"")) c.said)
+    let on = λ (k : Comp). (if k.0 == 0 then codes " on " else codes " on component ") ++ component_in names k.0 in
+    codes "run " ++ (run_in names c.entry.caller.0 ++ (option_map_or on c.comp [] ++ (codes ": " ++ (named_call names c.entry.op c.entry.reply
+    ++ (meaning_text names c.again c.entry.reply ++ flat_map (λ s. codes ": \"" ++ (s ++ codes "\"")) c.said)))))

@@ -4,7 +4,7 @@ use Rattle.csv.specs.{declared.writer.Writer.Writer, Writing.{default_writer, wr
 use Rattle.tc_stream.specs.Prelude.{AppendsPrefix}
 use Rattle.tc_rules.specs.Prelude.{Comp, Entry, Kept, StandsFor, name_in, name_of, created, is_parked, Verdict, level_of}
 use Rattle.tc_blocks.specs.declared.{header.{Header.Header, Kind.Kind}, line.Line.Line as BlockLine}
-use Rattle.tc_report.specs.{Blocks.{block_names, blocks_text}, Csv.{columns_text, csv_of}, Live.{opening_text, part_text}, InWords.{behaviour_of, component_text, name_at}, Observers.AreTaken, Progress.{AreLinesOf, again_lines, case_place, is_failure, time_text}, Report.{count_of, report_text, tally_of_cases}, Status.{counted_as, verdict_status}, Summary.case_summary, SummaryText.listed, Waits.before_stuck, declared.{fault.OutFault.OutFault, live_form.LiveForm.LiveForm, naming.Naming.Naming, progress.Progress.Progress, results.{Finished.Finished, Results.Results, Tally.Tally}, said.Said.Said, summary.Summary.Summary}}
+use Rattle.tc_report.specs.{Blocks.{block_names, blocks_text}, Csv.{columns_text, csv_of}, Live.{opening_text, part_text}, InWords.{behaviour_of, component_text, name_at}, Observers.AreTaken, Progress.{AreLinesOf, again_lines, case_place, is_failure, time_text}, Report.{count_of, report_text, tally_of_cases}, Status.{counted_as, verdict_status}, Summary.case_summary, SummaryText.listed, Waits.before_stuck, declared.{fault.OutFault.OutFault, live.LiveForm.LiveForm, naming.Naming.Naming, progress.Progress.Progress, results.{Finished.Finished, Results.Results, Tally.Tally}, said.Said.Said, summary.Summary.Summary}}
 
 -- the bytes in memory, and then those that the writer holds back
 abbrev pub written_by : Writer (Vec ℕ) → List ℕ

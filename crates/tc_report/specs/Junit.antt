@@ -15,27 +15,20 @@ escaped_byte b =
 abbrev pub with_status : ℕ → List Summary → ℕ
 with_status status ss = length (filter (λ s. verdict_status (counted_as s.ending) == status) ss)
 
--- an attribute that is a number
-unfoldable pub number_text : List ℕ → ℕ → List ℕ
-number_text name n = name ++ (decimal n ++ codes "\"")
-
--- an attribute that is a text
+-- an attribute
 unfoldable pub attribute_text : List ℕ → List ℕ → List ℕ
 attribute_text name text = name ++ (text ++ codes "\"")
 
 -- the counts, as attributes: skipped are those of which no verdict was set
 unfoldable pub counts_attributes : List Summary → List ℕ
 counts_attributes ss =
-    number_text (codes " tests=\"") (length ss) ++ (number_text (codes " failures=\"") (with_status 1 ss) ++
-    (number_text (codes " errors=\"") (with_status 2 ss) ++ number_text (codes " skipped=\"") (length (filter (λ s. level_of (counted_as s.ending) == 0) ss))))
+    attribute_text (codes " tests=\"") (decimal (length ss)) ++ (attribute_text (codes " failures=\"") (decimal (with_status 1 ss)) ++
+    (attribute_text (codes " errors=\"") (decimal (with_status 2 ss)) ++
+    attribute_text (codes " skipped=\"") (decimal (length (filter (λ s. level_of (counted_as s.ending) == 0) ss)))))
 
--- a second, as ISO 8601 has it, without a fraction
-unfoldable pub second_text : DateTime → List ℕ
-second_text second = datetime_text false 84 (Some 0) second
-
--- when a run began, as an attribute, if a clock said it
+-- when a run began, as an attribute, if a clock said it: a second, as ISO 8601 has it, without a fraction
 abbrev pub stamp_attribute : Option DateTime → List ℕ
-stamp_attribute begun = option_map_or (λ d. attribute_text (codes " timestamp=\"") (second_text d)) begun []
+stamp_attribute begun = option_map_or (λ d. attribute_text (codes " timestamp=\"") (datetime_text false 84 (Some 0) d)) begun []
 
 -- nothing is known of times
 abbrev pub no_times : Times

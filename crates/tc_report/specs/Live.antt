@@ -2,7 +2,7 @@
 use Rattle.std.specs.{Prelude.{ℕ, ◌≡◌, Bool, true, false, List, [], ◌∷◌, ◌++◌, IsSomeAnd, Option}, Io.KnownBytes.Appends}
 use Rattle.tc_rules.specs.Prelude.{worse}
 use Rattle.tc_blocks.specs.declared.header.Kind.{Kind}
-use Rattle.tc_report.specs.{Blocks.case_block, Csv.{columns_text, row_line}, Output.LeavesPrefix, Report.{case_text, ending_line, tally_line, tally_of_cases}, Summary.case_summary, declared.{live.LiveWriter.LiveWriter, live_form.LiveForm.LiveForm, results.{CampaignEnd.CampaignEnd, Finished.Finished, Tally.Tally}}}
+use Rattle.tc_report.specs.{Blocks.case_block, Csv.{columns_text, row_line}, Output.LeavesPrefix, Report.{case_text, ending_line, tally_line, tally_of_cases}, Summary.case_summary, declared.{live.{LiveForm.LiveForm, LiveWriter.LiveWriter}, results.{CampaignEnd.CampaignEnd, Finished.Finished, Tally.Tally}}}
 
 -- what is before the test cases, in this form
 abbrev pub opening_text : LiveForm → List ℕ

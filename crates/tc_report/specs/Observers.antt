@@ -2,7 +2,7 @@
 -- `takes` what one test case does to it, and how it is answered.
 use Rattle.std.specs.{Prelude.{ℕ, ◌≡◌, ◌+◌, Bool, true, List, [], ◌∷◌, ◌<◌, ◌++◌, length, ◌≤◌, IsSomeAnd, Option}, Global.Vec, Vec.{vec_capacity, vec_len}}
 use Rattle.tc_rules.specs.Prelude.{Verdict, level_of}
-use Rattle.tc_report.specs.declared.{kept.Kept.Kept, results.Finished.Finished}
+use Rattle.tc_report.specs.declared.results.{Finished.Finished, Kept.Kept}
 
 module _ {O : Type 0} (takes : O → Finished → O → Bool → Type 0) where
   -- the observer was given each of these test cases once, in their order, and let the campaign continue each time

@@ -8,13 +8,9 @@ use Rattle.tc_report.specs.{Cause.decided_text, Report.tally_of_cases, Status.ve
 abbrev pub case_place : List (List ℕ) → ℕ → List ℕ
 case_place names at = decimal (at + 1) ++ (codes "/" ++ decimal (length names))
 
--- seconds, and three digits for the thousandths
-abbrev pub seconds_text : ℕ × ℕ → List ℕ
-seconds_text t = decimal t.0 ++ (codes "." ++ drop 1 (decimal (1000 + t.1)))
-
--- how long something took, between these texts, if a clock said it
+-- how long something took, between these texts, if a clock said it: seconds, and three digits for the thousandths
 abbrev pub time_text : List ℕ → Option (ℕ × ℕ) → List ℕ → List ℕ
-time_text first time last = option_map_or (λ t. first ++ (seconds_text t ++ last)) time []
+time_text first time last = option_map_or (λ (t : ℕ × ℕ). first ++ ((decimal t.0 ++ (codes "." ++ drop 1 (decimal (1000 + t.1)))) ++ last)) time []
 
 -- what decided the verdict of a finished test case, if it is one worse than pass
 abbrev pub after_verdict : Finished → List ℕ

@@ -1,5 +1,5 @@
 -- What reports say of a test case, by its history or by its own report: both summaries are the same.
-use Rattle.std.specs.{Prelude.{ℕ, if◌then◌else◌, None, List, [], ◌∷◌, ◌++◌, drop, length, map, reverse, take, ◌≡◌}, List.{AllZip, flat_map}, Option.option_map_or}
+use Rattle.std.specs.{Prelude.{ℕ, if◌then◌else◌, None, List, [], ◌∷◌, ◌++◌, drop, length, map, reverse, ◌≡◌}, List.{AllZip, flat_map}, Option.option_map_or}
 use Rattle.tc_rules.specs.Prelude.{Comp, Entry, name_in, created, Verdict, comps, is_over, local, overall, IsOneHistory}
 use Rattle.tc_blocks.specs.{Prelude.entries_of, declared.{block.Block.Block, header.Kind.Kind, line.Line.Line}}
 use Rattle.tc_report.specs.{Blocks.{block_names, name_lines}, Cause.cause_of, InWords.namings_of, Said.said_in, Waits.waits_text, declared.{naming.{Names.Names, Naming.Naming}, results.{CampaignEnd.CampaignEnd, CaseEnd.CaseEnd, Finished.Finished, Results.Results}, said.Said.Said, summary.Summary.Summary}}
@@ -14,26 +14,23 @@ names_in history runs =
 abbrev pub no_names : Names
 no_names = record { comps = []; runs = [] }
 
--- the test case of this name, with these local verdicts, this end and this history, next to which this is said
-abbrev pub summary_with : List ℕ → List Verdict → CaseEnd → List Entry → Said → Summary
-summary_with name locals ending history said =
-    record { name = name; locals = locals; names = names_in history said.names; ending = ending; cause = cause_of ending said.remarks history; waits = [] }
-
 -- who waits for whom in a history of n behaviours with this end, if its verdict is error
 abbrev pub waits_if : CaseEnd → Names → ℕ → List Entry → List ℕ
 waits_if (CaseEnd.Over Verdict.Error) names n history = waits_text names n history
 waits_if ending names n history = []
 
--- the test case with who waits for whom in this history of n behaviours
-abbrev pub with_waits : ℕ → List Entry → Summary → Summary
-with_waits n history s = record s { waits = waits_if s.ending s.names n history }
+-- the test case of this name, with these local verdicts, this end and this history of n behaviours, next to which this is said
+abbrev pub summary_with : List ℕ → List Verdict → CaseEnd → ℕ → List Entry → Said → Summary
+summary_with name locals ending n history said =
+    let names = names_in history said.names in
+    record { name = name; locals = locals; names = names; ending = ending; cause = cause_of ending said.remarks history; waits = waits_if ending names n history }
 
 -- the test case of this name and of n behaviours, with these entries and what is said next to them; it may not be over
 abbrev pub summary_of : List ℕ → ℕ → List Entry → Said → Summary
 summary_of name n history said =
     let past = reverse history in
     let ending = if is_over past then CaseEnd.Over (overall past) else CaseEnd.Unfinished in
-    with_waits n history (summary_with name (map (local past) (comps past)) ending history said)
+    summary_with name (map (local past) (comps past)) ending n history said
 
 -- the test case of a block
 abbrev pub block_summary : Block → Summary
@@ -41,13 +38,12 @@ block_summary b = summary_of b.header.name b.header.behaviours (entries_of b.lin
 
 -- what a block of a finished test case says next to its entries: in evidence the names of its behaviours, in a history nothing
 abbrev pub said_of : Kind → Finished → Said
-said_of Kind.Evidence f = record { names = namings_of (take f.report.behaviours f.names); remarks = [] }
-said_of kind f = record { names = []; remarks = [] }
+said_of kind f = record { names = namings_of (block_names kind f); remarks = [] }
 
 -- a finished test case by its report, as such a block has it
 abbrev pub written_summary : Kind → Finished → Summary
 written_summary kind f =
-    with_waits f.report.behaviours f.report.history (summary_with f.name f.report.locals (CaseEnd.Over f.report.verdict) f.report.history (said_of kind f))
+    summary_with f.name f.report.locals (CaseEnd.Over f.report.verdict) f.report.behaviours f.report.history (said_of kind f)
 
 -- the same with all that evidence says
 abbrev pub case_summary : Finished → Summary

@@ -70,20 +70,6 @@ fn cause_by(
     })
 }
 
-#[tactic(auto, unfolding(crate::specs::Cause::deciding_cause))]
-fn deciding_cause(
-    alloc: Global,
-    remarks: &[Remark],
-    history: &[Entry],
-) -> Result<Option<Cause>, NoMemory>
-    ensures { IfOk result (λ cause. cause ≡ spec.deciding_cause remarks.now history.now) }
-{
-    match deciding_entry(history) {
-        Some(at) => Ok(Some(cause_by(alloc, remarks, history, at, &history[at])?)),
-        None => Ok(None),
-    }
-}
-
 /// What decided the verdict of a test case with this history, these remarks and this end, if the verdict is worse than pass.
 pub fn cause_of(
     alloc: Global,
@@ -93,11 +79,12 @@ pub fn cause_of(
 ) -> Result<Option<Cause>, NoMemory>
     ensures { IfOk result (λ cause. cause ≡ spec.cause_of ending remarks.now history.now) }
 {
-    match ending {
-        CaseEnd::Over(Verdict::Inconc | Verdict::Fail | Verdict::Error) => {
-            deciding_cause(alloc, remarks, history)
-        }
-        _ => Ok(None),
+    let CaseEnd::Over(Verdict::Inconc | Verdict::Fail | Verdict::Error) = ending else {
+        return Ok(None);
+    };
+    match deciding_entry(history) {
+        Some(at) => Ok(Some(cause_by(alloc, remarks, history, at, &history[at])?)),
+        None => Ok(None),
     }
 }
 
@@ -105,23 +92,12 @@ fn append_on(out: &mut Vec<u8>, names: &Names, comp: Option<Comp>) -> Result<(),
     ensures { OnOk result (out.new.items ≡ out.old.items ++ option_map_or (λ (k : AnyComp).
         (if k.0 == 0 then codes " on " else codes " on component ") ++ component_in names.now k.0) comp []) }
 {
-    let Some(comp) = comp else {
-        return Ok(());
-    };
-    let is_main = comp.0 == 0;
-    append_text(out, if is_main { " on " } else { " on component " })?;
-    append_component_in(out, names, comp)
-}
-
-#[tactic(auto, unfolding(crate::specs::Cause::cause_text))]
-fn append_cause(out: &mut Vec<u8>, names: &Names, cause: &Cause) -> Result<(), NoMemory>
-    ensures { OnOk result (out.new.items ≡ out.old.items ++ spec.cause_text names.now cause.now) }
-{
-    append_text(out, "run ")?;
-    append_run_in(out, names, cause.entry.caller)?;
-    append_on(out, names, cause.comp)?;
-    append_text(out, ": ")?;
-    append_named_call(out, names, &cause.entry.op, cause.entry.reply)
+    if let Some(comp) = comp {
+        let is_main = comp.0 == 0;
+        append_text(out, if is_main { " on " } else { " on component " })?;
+        append_component_in(out, names, comp)?;
+    }
+    Ok(())
 }
 
 fn append_reason(out: &mut Vec<u8>, said: &Sentence) -> Result<(), NoMemory>
@@ -144,10 +120,15 @@ fn append_reasons(out: &mut Vec<u8>, said: &[Sentence]) -> Result<(), NoMemory>
 
 /// Appends what decided the verdict: the run, its component, the call, what its error means, and what the run said of it.
 /// If memory runs out, a part of it.
+#[tactic(auto, unfolding(crate::specs::Cause::decided_text))]
 pub fn append_decision(out: &mut Vec<u8>, names: &Names, cause: &Cause) -> Result<(), NoMemory>
     ensures { OnOk result (out.new.items ≡ out.old.items ++ spec.decided_text names.now cause.now) }
 {
-    append_cause(out, names, cause)?;
+    append_text(out, "run ")?;
+    append_run_in(out, names, cause.entry.caller)?;
+    append_on(out, names, cause.comp)?;
+    append_text(out, ": ")?;
+    append_named_call(out, names, &cause.entry.op, cause.entry.reply)?;
     append_meaning(out, names, cause.again, cause.entry.reply)?;
     append_reasons(out, cause.said.as_slice())
 }

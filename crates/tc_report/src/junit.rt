@@ -1,5 +1,5 @@
 //! The JUnit report.
-ghost use Rattle.std.specs.{Prelude.{◌≡◌, ◌==◌, ◌++◌, codes, filter, length, slice_get, unwrap_or, IfOk, IfErr, OnOk}, Io.KnownBytes.Appends, List.flat_map, Option.option_and_then};
+ghost use Rattle.std.specs.{Prelude.{◌≡◌, ◌==◌, ◌++◌, codes, filter, length, slice_get, unwrap_or, IfOk, IfErr, OnOk}, Fmt.decimal, Io.KnownBytes.Appends, List.flat_map, Option.option_and_then};
 ghost use Rattle.tc_rules.specs.Prelude.{level_of};
 ghost use Rattle.tc_report.specs.{Cause.decided_text, Output.LeavesPrefix, Status.counted_as as spec_counted, declared.summary.Summary.Summary as AnySummary};
 ghost use Rattle.tc_report.specs.Junit as spec;
@@ -38,9 +38,9 @@ fn with_verdict(cases: &[Summary], verdict: Verdict) -> usize
     found.count()
 }
 
-#[tactic(auto, unfolding(crate::specs::Junit::number_text))]
+#[tactic(auto, unfolding(crate::specs::Junit::attribute_text))]
 fn append_attribute(out: &mut Vec<u8>, name: &str, number: usize) -> Result<(), NoMemory>
-    ensures { OnOk result (out.new.items ≡ out.old.items ++ spec.number_text name.now number) }
+    ensures { OnOk result (out.new.items ≡ out.old.items ++ spec.attribute_text name.now (decimal number)) }
 {
     append_text(out, name)?;
     append_number(out, number as u64)?;

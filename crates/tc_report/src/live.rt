@@ -5,21 +5,31 @@ ghost use Rattle.tc_rules.specs.Prelude.{worse};
 ghost use Rattle.tc_report.specs.{Inside.IsOneMore, Live.Writes, Live.closing_text as spec_closing, Live.opening_text as spec_opening, Live.part_text as spec_part, Output.LeavesPrefix, Report.tally_of_cases, Status.ending_status as spec_status};
 
 use crate::blocks::append_block;
-use crate::counts::{tally_cases, with_case};
-use crate::ending::append_ending;
 use crate::fault::OutFault;
-use crate::live_form::LiveForm;
 use crate::observer::Observer;
 use crate::output::write_flushed;
 use crate::records::{case_row, csv_header};
-use crate::report::{append_case, append_tally};
-use crate::results::{CampaignEnd, Finished, Tally};
+use crate::report::{append_case, append_ending, append_tally};
+use crate::results::{CampaignEnd, Finished, Tally, tally_cases, with_case};
 use crate::status::ending_status;
 use std::alloc::Global;
 use std::io::Write;
 use tc_blocks::Kind;
 use tc_entry::{NoMemory, Verdict};
 use tc_verdict::worse_of;
+
+/// In which form a `LiveWriter` writes the results of a campaign.
+#[derive(Clone, Copy, Debug, PartialEq, Eq)]
+pub enum LiveForm {
+    /// The text report.
+    Text,
+    /// The CSV report.
+    Csv,
+    /// The history of each test case.
+    History,
+    /// The evidence of each test case.
+    Evidence,
+}
 
 fn opening_text(alloc: Global, form: LiveForm) -> Result<Vec<u8>, NoMemory>
     ensures { IfOk result (λ v. v.items ≡ spec_opening form) }

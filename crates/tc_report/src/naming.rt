@@ -57,11 +57,10 @@ fn append_numbered(out: &mut Vec<u8>, number: u64, name: Option<&Name>) -> Resul
     ensures { OnOk result (out.new.items ≡ out.old.items ++ spec.numbered number (option_copied name.entry)) }
 {
     append_number(out, number)?;
-    let Some(name) = name else {
-        return Ok(());
-    };
-    out.push(b' ')?;
-    out.extend_from_slice(name.bytes())?;
+    if let Some(name) = name {
+        out.push(b' ')?;
+        out.extend_from_slice(name.bytes())?;
+    }
     Ok(())
 }
 

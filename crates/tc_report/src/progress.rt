@@ -1,15 +1,14 @@
 //! What is printed about test cases as they begin and finish.
-ghost use Rattle.std.specs.{Prelude.{ℕ, List, Option, ◌≡◌, ◌+◌, ◌++◌, ◌∷◌, [], true, None, IfOk, OnOk, OnErr, codes}, Fmt.decimal, Io.KnownBytes.Appends, Option.option_map_or};
+ghost use Rattle.std.specs.{Prelude.{ℕ, List, Option, ◌≡◌, ◌+◌, ◌++◌, ◌∷◌, [], true, None, IfOk, OnOk, OnErr, codes, drop}, Fmt.decimal, Io.KnownBytes.Appends, Option.option_map_or};
 ghost use Rattle.tc_stream.specs.Prelude.{AppendsPrefix};
-ghost use Rattle.tc_report.specs.{Cause.decided_text, Inside.IsOneMore, Inside.OnlyPrints, Inside.again_by, Inside.line_by_place, Inside.rest_by, Observers.KeepsTimes, Progress.HasTold, Progress.IsToldBy, Progress.TellsProgress, Progress.again_lines, Progress.begun_text, Progress.case_place, Progress.finished_text, Progress.last_line, Progress.seconds_text, Progress.time_text, Progress.after_verdict, Progress.whole_time, declared.cause.Cause.Cause as AnyCause};
+ghost use Rattle.tc_report.specs.{Cause.decided_text, Inside.IsOneMore, Inside.OnlyPrints, Inside.again_by, Inside.line_by_place, Inside.rest_by, Observers.KeepsTimes, Progress.HasTold, Progress.IsToldBy, Progress.TellsProgress, Progress.again_lines, Progress.begun_text, Progress.case_place, Progress.finished_text, Progress.last_line, Progress.time_text, Progress.after_verdict, Progress.whole_time, declared.cause.Cause.Cause as AnyCause};
 
 use crate::cause::{Cause, append_decision};
-use crate::counts::{tally_cases, with_case};
 use crate::fault::OutFault;
 use crate::naming::Names;
 use crate::observer::Observer;
 use crate::output::print;
-use crate::results::{Finished, Tally};
+use crate::results::{Finished, Tally, tally_cases, with_case};
 use crate::status::{is_met, verdict_status};
 use crate::stopwatch::Stopwatch;
 use crate::summary::summary_of_case;
@@ -64,7 +63,7 @@ fn append_begun_line(out: &mut Vec<u8>, shown: Shown<'_>, at: usize) -> Result<(
 // Appends a time: seconds, to a thousandth.
 #[tactic(auto, using(std::proofs::lemmas::List::drop_min))]
 fn append_seconds(out: &mut Vec<u8>, time: (u64, u32)) -> Result<(), NoMemory>
-    ensures { OnOk result (out.new.items ≡ out.old.items ++ seconds_text time) }
+    ensures { OnOk result (out.new.items ≡ out.old.items ++ (decimal time.0 ++ (codes "." ++ drop 1 (decimal (1000 + time.1))))) }
 {
     let mut digits = Vec::new(*out.allocator());
     append_number(&mut digits, 1000 + u64::from(time.1))?;

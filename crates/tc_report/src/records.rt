@@ -4,10 +4,9 @@ ghost use Rattle.csv.specs.Records.{fields_of, partial_of};
 ghost use Rattle.tc_rules.specs.Prelude.{IsName};
 ghost use Rattle.tc_report.specs.{Csv.columns_text, Csv.csv_of, Csv.end_word as spec_word, Csv.row_line, Inside.IsBetweenRecords, Inside.IsStarted, Inside.counts_of, Inside.written_by, Output.LeavesPrefix, Summary.case_summary};
 
-use crate::counts::count_of;
 use crate::fault::OutFault;
 use crate::output::write_made;
-use crate::results::{CaseEnd, Finished, Results};
+use crate::results::{CaseEnd, Finished, Results, count_of};
 use crate::summary::{Summary, summaries_of_cases, summary_of_case};
 use csv::{ByteRecord, Writer, WriterBuilder};
 use std::alloc::Global;

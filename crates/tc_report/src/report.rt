@@ -1,18 +1,20 @@
-//! The text report.
-ghost use Rattle.std.specs.{Prelude.{◌≡◌, ◌++◌, ◌∷◌, OnOk, OnErr, IfErr, IfSome, [], codes, option_copied, slice_get, unwrap_or}, Fmt.decimal, Io.KnownBytes.Appends, Io.StartsWith, List.flat_map};
+//! The text report, of results and of histories, with its tally and how a campaign ended.
+ghost use Rattle.std.specs.{Prelude.{◌≡◌, ◌+◌, ◌++◌, ◌∷◌, OnOk, OnErr, IfOk, IfErr, IfSome, [], codes, option_copied, reverse, slice_get, unwrap_or}, Fmt.decimal, Io.KnownBytes.Appends, Io.StartsWith, List.flat_map};
+ghost use Rattle.tc_stream.specs.Prelude.{AppendsPrefix};
 ghost use Rattle.tc_text.specs.Prelude.{op_text, reply_text};
-ghost use Rattle.tc_rules.specs.Prelude.{name_of as spec_name};
-ghost use Rattle.tc_report.specs.{Output.LeavesPrefix, Report.case_text, Report.local_lines, Report.report_text, Report.run_text, Report.shown_entry, Report.shown_op, Report.tally_line, Report.verdict_line};
+ghost use Rattle.tc_rules.specs.Prelude.{comp_of, log_if, logs_below, name_of as spec_name, part};
+ghost use Rattle.tc_report.specs.{Inside.name_or_none, Output.LeavesPrefix, Replayed.replayed_text, Replayed.verdicts_closing, Report.abort_text, Report.aborted_text, Report.case_text, Report.ending_line, Report.is_aborted, Report.local_lines, Report.report_text, Report.run_text, Report.shown_entry, Report.shown_op, Report.tally_line, Report.tally_of_cases, Report.verdict_line, declared.results.CampaignEnd.TheVariants.Aborted};
 
-use crate::counts::tally;
-use crate::ending::append_ending;
 use crate::fault::OutFault;
-use crate::output::write_made;
-use crate::results::{Finished, Results, Tally};
+use crate::naming::{Naming, behaviour_of};
+use crate::output::{write_both, write_made};
+use crate::results::{CampaignEnd, Finished, Results, Tally, count_of, tally_cases};
+use crate::summary::Summary;
 use std::alloc::Global;
 use std::io::Write;
 use tc_entry::{Comp, Entry, Name, NoMemory, Op, Reply, Run, Verdict};
-use tc_rules::RunLog;
+use tc_rules::{CaseError, RunLog, component_of};
+use tc_stream::{WriteFault, write_whole};
 use tc_text::{append_number, append_text, write_op, write_reply};
 use tc_verdict::{UserVerdict, name as name_of};
 
@@ -94,13 +96,10 @@ pub(crate) fn append_entries(out: &mut Vec<u8>, entries: &[Entry]) -> Result<(),
 fn append_behaviour(out: &mut Vec<u8>, name: Option<&Name>) -> Result<(), NoMemory>
     ensures { OnOk result (out.new.items ≡ out.old.items ++ unwrap_or (option_copied name.entry) []) }
 {
-    match name {
-        Some(name) => {
-            out.extend_from_slice(name.bytes())?;
-            Ok(())
-        }
-        None => Ok(()),
+    if let Some(name) = name {
+        out.extend_from_slice(name.bytes())?;
     }
+    Ok(())
 }
 
 /// Appends the line of a run on this component, whose behaviour has this name, if it has one.
@@ -225,6 +224,67 @@ pub(crate) fn append_tally(out: &mut Vec<u8>, tally: &Tally) -> Result<(), NoMem
     Ok(())
 }
 
+/// Appends which case was refused, and why; if memory runs out, a part of it.
+pub fn append_aborted(out: &mut Vec<u8>, name: &Name, why: CaseError) -> Result<(), NoMemory>
+    ensures ok { OnOk result (out.new.items ≡ out.old.items ++ aborted_text name.now why) }
+    ensures err { OnErr result (StartsWith out.new.items out.old.items) }
+{
+    append_text(out, "aborted at ")?;
+    out.extend_from_slice(name.bytes())?;
+    append_text(out, ": ")?;
+    append_text(out, why.text())
+}
+
+/// Appends the line of the ending.
+pub(crate) fn append_ending(out: &mut Vec<u8>, ending: &CampaignEnd) -> Result<(), NoMemory>
+    ensures { OnOk result (out.new.items ≡ out.old.items ++ ending_line ending.now) }
+{
+    match ending {
+        CampaignEnd::Complete => append_text(out, "complete")?,
+        CampaignEnd::StoppedAfter(name) => {
+            append_text(out, "stopped after ")?;
+            out.extend_from_slice(name.bytes())?;
+        }
+        CampaignEnd::Aborted { name, why } => append_aborted(out, name, *why)?,
+    }
+    out.push(b'\n')?;
+    Ok(())
+}
+
+// Writes which case was refused, and why, as a line; if the writer fails, a prefix of it.
+fn write_aborted<W: Write>(writer: &mut W, name: &Name, why: CaseError) -> Result<(), WriteFault>
+    ensures all { OnOk result (Appends (W.contents writer.old) (W.contents writer.new) (abort_text (Aborted name.now why))) }
+    ensures part { OnErr result (AppendsPrefix (W.contents writer.old) (W.contents writer.new) (abort_text (Aborted name.now why))) }
+{
+    write_both(writer, b"ttrun: aborted at ", name.bytes())?;
+    write_both(writer, b": ", why.text().as_bytes())?;
+    write_whole(writer, b"\n")?;
+    Ok(())
+}
+
+/// If the campaign was aborted, writes the program's line on standard error and returns true; otherwise writes nothing
+/// and returns false. It takes no memory. If the writer fails, a prefix of the line is written.
+pub fn write_abort<W: Write>(results: &Results, writer: &mut W) -> Result<bool, WriteFault>
+    ensures answer { IfOk result (λ is. is ≡ is_aborted results.now.ending) }
+    ensures all { OnOk result (Appends (W.contents writer.old) (W.contents writer.new) (abort_text results.now.ending)) }
+    ensures part { OnErr result (AppendsPrefix (W.contents writer.old) (W.contents writer.new) (abort_text results.now.ending)) }
+{
+    let CampaignEnd::Aborted { name, why } = &results.ending else {
+        return Ok(false);
+    };
+    write_aborted(writer, name, *why)?;
+    Ok(true)
+}
+
+/// Counts the finished test cases by their overall verdicts. It takes no memory.
+#[tactic(auto, using(crate::proofs::Counting::all_counted))]
+pub fn tally(results: &Results) -> Tally
+    ensures counts { result ≡ tally_of_cases results.now.finished }
+    ensures all { result.none + result.pass + result.inconc + result.fail + result.error ≡ result.cases }
+{
+    tally_cases(results.finished.as_slice())
+}
+
 /// Writes the text report: each finished test case in order, the tally and the ending. The text is made whole before
 /// anything is written.
 pub fn write_text<W: Write>(
@@ -240,4 +300,83 @@ pub fn write_text<W: Write>(
     append_tally(&mut text, &tally(results))?;
     append_ending(&mut text, &results.ending)?;
     write_made(writer, text.as_slice())
+}
+
+fn append_part(out: &mut Vec<u8>, history: &[Entry], run: u16) -> Result<(), NoMemory>
+    ensures { OnOk result (out.new.items ≡ out.old.items ++ flat_map shown_entry (part history.now run)) }
+{
+    for entry in history {
+        if entry.caller.0 == run {
+            append_entry(out, entry)?;
+        }
+    }
+    Ok(())
+}
+
+#[tactic(auto, using(crate::proofs::Replaying::run_started))]
+fn append_run_of(
+    out: &mut Vec<u8>,
+    names: &[Naming],
+    history: &[Entry],
+    run: u16,
+) -> Result<(), NoMemory>
+    ensures { OnOk result (out.new.items ≡ out.old.items ++ flat_map (run_text (name_or_none names.now))
+        (log_if (comp_of (reverse history.now) run) history.now run)) }
+{
+    match component_of(history, Run(run)) {
+        Some(comp) => {
+            append_run_line(out, Run(run), behaviour_of(names, usize::from(run)), comp)?;
+            append_part(out, history, run)
+        }
+        None => Ok(()),
+    }
+}
+
+fn append_runs_of(
+    out: &mut Vec<u8>,
+    names: &[Naming],
+    behaviours: u16,
+    history: &[Entry],
+) -> Result<(), NoMemory>
+    ensures { OnOk result (out.new.items ≡ out.old.items
+        ++ flat_map (run_text (name_or_none names.now)) (logs_below history.now behaviours)) }
+{
+    for run in 0..behaviours {
+        append_run_of(out, names, history, run)?;
+    }
+    Ok(())
+}
+
+/// Appends what the text report says of the test case of this summary and that many behaviours, with this history and
+/// this verdict. If memory runs out, a part of it.
+pub fn append_replayed(
+    out: &mut Vec<u8>,
+    summary: &Summary,
+    behaviours: u16,
+    history: &[Entry],
+    verdict: Verdict,
+) -> Result<(), NoMemory>
+    ensures { OnOk result (out.new.items ≡ out.old.items
+        ++ replayed_text summary.now behaviours history.now verdict) }
+{
+    append_name(out, &summary.name)?;
+    append_runs_of(out, summary.names.runs.as_slice(), behaviours, history)?;
+    append_locals(out, summary.locals.as_slice())?;
+    append_verdict(out, verdict)
+}
+
+/// Appends what follows the test cases of the text report, which have these verdicts. If memory runs out, a part of it.
+pub fn append_closing(out: &mut Vec<u8>, verdicts: &[Verdict]) -> Result<(), NoMemory>
+    ensures { OnOk result (out.new.items ≡ out.old.items ++ verdicts_closing verdicts.now) }
+{
+    let tally = Tally {
+        cases: verdicts.len(),
+        none: count_of(verdicts, Verdict::None),
+        pass: count_of(verdicts, Verdict::Pass),
+        inconc: count_of(verdicts, Verdict::Inconc),
+        fail: count_of(verdicts, Verdict::Fail),
+        error: count_of(verdicts, Verdict::Error),
+    };
+    append_tally(out, &tally)?;
+    append_ending(out, &CampaignEnd::Complete)
 }

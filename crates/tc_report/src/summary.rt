@@ -2,7 +2,7 @@
 ghost use Rattle.std.specs.Prelude.{◌≡◌, ◌++◌, IfOk, OnOk, List, if◌then◌else◌, map, reverse};
 ghost use Rattle.tc_rules.specs.Prelude.{Entry as AnyEntry, StandsFor, is_over, overall};
 ghost use Rattle.tc_blocks.specs.declared.header.Kind.{Kind};
-ghost use Rattle.tc_report.specs.{Summary.aborted_summary, Summary.bare_summary as spec_bare, Summary.case_summary, Summary.results_summaries, Summary.said_of as spec_said, Summary.summary_of, Summary.summary_with as spec_with, Summary.waits_if, Summary.with_waits as spec_waits, declared.results.CaseEnd.TheVariants.NotRun};
+ghost use Rattle.tc_report.specs.{Summary.aborted_summary, Summary.bare_summary as spec_bare, Summary.case_summary, Summary.results_summaries, Summary.said_of as spec_said, Summary.summary_of, Summary.summary_with as spec_with, Summary.waits_if, declared.results.CaseEnd.TheVariants.NotRun};
 
 use crate::blocks::first_names;
 use crate::cause::{Cause, cause_of};
@@ -66,58 +66,47 @@ fn copied(alloc: Global, namings: &[Naming]) -> Result<Vec<Naming>, NoMemory>
     Ok(copies.collect(alloc)?)
 }
 
-// The summary of the test case of this name, with these local verdicts, this end and this history, next to which this is
-// said: without the lines of who waits for whom.
-fn summary_with(
+fn waits_in(
     alloc: Global,
+    ending: CaseEnd,
+    names: &Names,
+    behaviours: u16,
+    history: &[Entry],
+) -> Result<Vec<u8>, NoMemory>
+    ensures { IfOk result (λ v. v.items ≡ waits_if ending names.now behaviours history.now) }
+{
+    let mut waits = Vec::new(alloc);
+    if let CaseEnd::Over(Verdict::Error) = ending {
+        append_waits(alloc, &mut waits, names, behaviours, history)?;
+    }
+    Ok(waits)
+}
+
+// The summary of the test case of this name, with these local verdicts, this end, and this history of that many
+// behaviours, next to which this is said.
+fn summary_with(
     name: &Name,
     locals: Vec<Verdict>,
     ending: CaseEnd,
+    behaviours: u16,
     history: &[Entry],
     said: &Said,
 ) -> Result<Summary, NoMemory>
-    ensures { IfOk result (λ s. s ≡ spec_with name.now locals.items ending history.now said.now) }
+    ensures { IfOk result (λ s. s ≡ spec_with name.now locals.items ending behaviours history.now said.now) }
 {
+    let alloc = *locals.allocator();
     let cause = cause_of(alloc, ending, said.remarks.as_slice(), history)?;
     let runs = copied(alloc, said.names.as_slice())?;
     let names = names_in(alloc, history, runs)?;
+    let waits = waits_in(alloc, ending, &names, behaviours, history)?;
     Ok(Summary {
         name: name.copy(),
         locals: Sequence::new(locals),
         names,
         ending,
         cause,
-        waits: Sequence::new(Vec::new(alloc)),
+        waits: Sequence::new(waits),
     })
-}
-
-fn waits_in(
-    alloc: Global,
-    summary: &Summary,
-    behaviours: u16,
-    history: &[Entry],
-) -> Result<Vec<u8>, NoMemory>
-    ensures { IfOk result (λ v. v.items ≡ waits_if summary.now.ending summary.now.names behaviours history.now) }
-{
-    let mut waits = Vec::new(alloc);
-    if let CaseEnd::Over(Verdict::Error) = summary.ending {
-        append_waits(alloc, &mut waits, &summary.names, behaviours, history)?;
-    }
-    Ok(waits)
-}
-
-fn with_waits(
-    alloc: Global,
-    summary: Summary,
-    behaviours: u16,
-    history: &[Entry],
-) -> Result<Summary, NoMemory>
-    ensures { IfOk result (λ s. s ≡ spec_waits behaviours history.now summary) }
-{
-    let mut summary = summary;
-    let waits = waits_in(alloc, &summary, behaviours, history)?;
-    summary.waits = Sequence::new(waits);
-    Ok(summary)
 }
 
 /// The summary of the test case of this name with this history, which left this state, and with what is said next to it.
@@ -132,8 +121,8 @@ pub fn summary_of_state(
         → IfOk result (λ s. s ≡ summary_of name.now state.now.behaviours history.now said.now) }
 {
     let locals = locals_of(alloc, state)?;
-    let summary = summary_with(alloc, name, locals, end_of_state(state), history, said)?;
-    with_waits(alloc, summary, state.behaviours(), history)
+    let ending = end_of_state(state);
+    summary_with(name, locals, ending, state.behaviours(), history, said)
 }
 
 // What evidence of a finished test case says next to its entries.
@@ -148,26 +137,17 @@ fn said_of(alloc: Global, case: &Finished) -> Result<Said, NoMemory>
     })
 }
 
-// The summary of a finished test case without the lines of who waits for whom.
-fn summary_without(alloc: Global, case: &Finished) -> Result<Summary, NoMemory>
-    ensures { IfOk result (λ s. s ≡ spec_with case.now.name case.now.report.locals (CaseEnd.Over case.now.report.verdict)
-        case.now.report.history (spec_said Kind.Evidence case.now)) }
-{
-    let mut locals = Vec::new(alloc);
-    locals.extend_from_slice(case.report.locals.as_slice())?;
-    let ending = CaseEnd::Over(case.report.verdict);
-    let said = said_of(alloc, case)?;
-    let history = case.report.history.as_slice();
-    summary_with(alloc, &case.name, locals, ending, history, &said)
-}
-
 /// The summary of a finished test case.
 pub fn summary_of_case(alloc: Global, case: &Finished) -> Result<Summary, NoMemory>
     ensures { IfOk result (λ s. s ≡ case_summary case.now) }
 {
-    let summary = summary_without(alloc, case)?;
-    let history = case.report.history.as_slice();
-    with_waits(alloc, summary, case.report.behaviours, history)
+    let report = &case.report;
+    let mut locals = Vec::new(alloc);
+    locals.extend_from_slice(report.locals.as_slice())?;
+    let ending = CaseEnd::Over(report.verdict);
+    let said = said_of(alloc, case)?;
+    let (name, history) = (&case.name, report.history.as_slice());
+    summary_with(name, locals, ending, report.behaviours, history, &said)
 }
 
 fn add_aborted(summaries: &mut Vec<Summary>, ending: &CampaignEnd) -> Result<(), NoMemory>

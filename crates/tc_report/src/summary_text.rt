@@ -1,7 +1,6 @@
 //! The summary of test cases, a page for a person.
-ghost use Rattle.std.specs.{Prelude.{◌≡◌, ◌++◌, ◌∷◌, [], IfOk, OnOk, codes, filter, length, map, take}, List.flat_map};
-ghost use Rattle.tc_rules.specs.Prelude.{name_of as spec_name};
-ghost use Rattle.tc_report.specs.{Cause.decided_text, Inside.IsNext, Inside.has_failed, Inside.is_shown, Inside.member_text as spec_member, Inside.members as spec_members, Inside.numbers_with, Report.tally_by};
+ghost use Rattle.std.specs.{Prelude.{◌≡◌, ◌++◌, ◌∷◌, [], IfOk, OnOk, codes, filter, map, take}, List.flat_map};
+ghost use Rattle.tc_report.specs.{Cause.decided_text, Inside.IsNext, Inside.has_failed, Inside.is_shown, Inside.member_text as spec_member, Inside.members as spec_members, Inside.numbers_with};
 ghost use Rattle.tc_report.specs.SummaryText as spec;
 
 use crate::cause::{Cause, append_decision};
@@ -23,19 +22,6 @@ fn ended(cases: &[Summary], word: &str) -> usize
     found.count()
 }
 
-fn tally_of(cases: &[Summary]) -> Tally
-    ensures { result ≡ tally_by (length cases.now) (λ v. spec.ended_so (spec_name v) cases.now) }
-{
-    Tally {
-        cases: cases.len(),
-        none: ended(cases, "none"),
-        pass: ended(cases, "pass"),
-        inconc: ended(cases, "inconc"),
-        fail: ended(cases, "fail"),
-        error: ended(cases, "error"),
-    }
-}
-
 fn append_other(out: &mut Vec<u8>, word: &str, cases: &[Summary]) -> Result<(), NoMemory>
     ensures { OnOk result (out.new.items ≡ out.old.items ++ spec.other_line word.now cases.now) }
 {
@@ -52,7 +38,15 @@ fn append_other(out: &mut Vec<u8>, word: &str, cases: &[Summary]) -> Result<(), 
 fn append_counts(out: &mut Vec<u8>, cases: &[Summary]) -> Result<(), NoMemory>
     ensures { OnOk result (out.new.items ≡ out.old.items ++ spec.counts_text cases.now) }
 {
-    append_tally(out, &tally_of(cases))?;
+    let tally = Tally {
+        cases: cases.len(),
+        none: ended(cases, "none"),
+        pass: ended(cases, "pass"),
+        inconc: ended(cases, "inconc"),
+        fail: ended(cases, "fail"),
+        error: ended(cases, "error"),
+    };
+    append_tally(out, &tally)?;
     append_other(out, "unfinished", cases)?;
     append_other(out, "aborted", cases)?;
     append_other(out, "missing", cases)?;
@@ -120,16 +114,6 @@ fn append_listed(
     append_text(out, "\n")
 }
 
-fn append_first(out: &mut Vec<u8>, verdict: Verdict, text: &[u8]) -> Result<(), NoMemory>
-    ensures { OnOk result (out.new.items ≡ out.old.items ++ (codes "  " ++ (spec_name verdict ++ (codes ": " ++ text.now)))) }
-{
-    append_text(out, "  ")?;
-    append_text(out, name_of(verdict))?;
-    append_text(out, ": ")?;
-    out.extend_from_slice(text)?;
-    Ok(())
-}
-
 // Appends the lines of the components with a local verdict, if there are some.
 fn append_members(
     out: &mut Vec<u8>,
@@ -144,7 +128,10 @@ fn append_members(
         return Ok(());
     };
     let text = member_text(*out.allocator(), names, *first)?;
-    append_first(out, verdict, text.as_slice())?;
+    append_text(out, "  ")?;
+    append_text(out, name_of(verdict))?;
+    append_text(out, ": ")?;
+    out.extend_from_slice(text.as_slice())?;
     append_listed(out, names, 67usize.saturating_sub(text.len()), others)
 }
 

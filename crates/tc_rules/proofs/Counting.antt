@@ -2,7 +2,7 @@
 use Rattle.std.{proofs.{Common.{ℕ, zero, suc, ◌≡◌, ◌+◌, ◌<◌, ◌≤◌, ◌==◌, ◌&&◌, ◌||◌, not, if◌then◌else◌, nat_lt, Bool, true, false, is_some, List, [], ◌∷◌, ◌++◌, length, drop, get_or, refl, ap, sym, ◌∙◌, arith, length-append}, Math.ListN.{set, length-set}, lemmas.Bool.Decides.nat_tests}, specs.List.{list_any, list_all}}
 use Rattle.tc_entry.specs.{declared.limits.TheConstants.COMPONENTS, Prelude.{Verdict, worse, level_of}}
 use Rattle.tc_verdict.proofs.Lemmas.Order.{worse_later, worse_swap}
-use Rattle.tc_rules.specs.{Inside.Counts.IsCounted, Inside.Counts.bit, Inside.Counts.count_of, Inside.Counts.is_lapsed, Inside.Counts.made_state, Inside.Counts.main_state, Inside.States.all_alive, Inside.States.all_killed, Inside.States.any_alive, Inside.States.any_done, Inside.States.any_killed, Inside.States.any_running, Inside.States.none_lapsed, Inside.States.none_running, Inside.States.worst_local, Status.is_done, Status.is_killed, Status.is_running, declared.component_state.ComponentState.ComponentState}
+use Rattle.tc_rules.specs.{Inside.Counts.IsCounted, Inside.Counts.bit, Inside.Counts.count_of, Inside.Counts.is_lapsed, Inside.Counts.made_state, Inside.Counts.main_state, Inside.States.all_killed, Inside.States.any_done, Inside.States.any_killed, Inside.States.none_lapsed, Inside.States.none_running, Inside.States.worst_local, Status.is_done, Status.is_killed, Status.is_running, declared.component_state.ComponentState.ComponentState}
 
 -- counts instead of searches
 
@@ -38,14 +38,6 @@ all_is p (x ∷ xs) = by_test (p x) (list_all p xs) (count_of p xs) (length xs) 
     by_test true b n m h k = grind (arith, nat_tests)
     by_test false b n m h k = grind (arith, nat_tests)
 
-some_is : (p : ComponentState → Bool) (xs : List ComponentState) → list_any (λ s. not (p s)) xs ≡ nat_lt (count_of p xs) (length xs)
-some_is p [] = refl
-some_is p (x ∷ xs) = by_test (p x) (list_any (λ s. not (p s)) xs) (count_of p xs) (length xs) (some_is p xs) (count_le p xs)
-  where
-    by_test : (t b : Bool) (n m : ℕ) → b ≡ nat_lt n m → n ≤ m → (not t || b) ≡ nat_lt (bit t + n) (suc m)
-    by_test true b n m h k = grind (arith, nat_tests)
-    by_test false b n m h k = grind (arith, nat_tests)
-
 lapsed_is : (xs : List ComponentState) → list_all (λ s. not (is_some s.last) || is_running s.phase || s.excused) xs ≡ (count_of is_lapsed xs == 0)
 lapsed_is [] = refl
 lapsed_is (x ∷ xs) = by_test (is_some x.last) (is_running x.phase) x.excused _ (count_of is_lapsed xs) (lapsed_is xs)
@@ -61,10 +53,6 @@ length-drop-one [] h = absurd (omega arith)
 length-drop-one (x ∷ xs) h = omega arith
 
 module _ {states : List ComponentState} {running done killed lapsed : ℕ} {w : Verdict} where
-  pub any_running_is : IsCounted states running done killed lapsed w → any_running (drop 1 states) ≡ nat_lt 0 running
-  unfolding any_running
-  any_running_is k = any_is (λ s. is_running s.phase) (drop 1 states) ∙ ap (nat_lt 0) (sym k.running_is)
-
   pub none_running_is : IsCounted states running done killed lapsed w → none_running (drop 1 states) ≡ (running == 0)
   unfolding none_running
   none_running_is k = none_is (λ s. is_running s.phase) (drop 1 states) ∙ ap (λ n. n == 0) (sym k.running_is)
@@ -78,16 +66,6 @@ module _ {states : List ComponentState} {running done killed lapsed : ℕ} {w : 
   all_killed_is k =
       all_is (λ s. is_killed s.phase) (drop 1 states)
       ∙ (let e : length (drop 1 states) + 1 ≡ length states = length-drop-one states k.some in let f = k.killed_is in grind (arith, nat_tests))
-
-  pub any_alive_is : IsCounted states running done killed lapsed w → any_alive (drop 1 states) ≡ nat_lt (killed + 1) (length states)
-  unfolding any_alive
-  any_alive_is k =
-      some_is (λ s. is_killed s.phase) (drop 1 states)
-      ∙ (let e : length (drop 1 states) + 1 ≡ length states = length-drop-one states k.some in let f = k.killed_is in grind (arith, nat_tests))
-
-  pub all_alive_is : IsCounted states running done killed lapsed w → all_alive (drop 1 states) ≡ (killed == 0)
-  unfolding all_alive
-  all_alive_is k = none_is (λ s. is_killed s.phase) (drop 1 states) ∙ ap (λ n. n == 0) (sym k.killed_is)
 
   pub any_done_is : IsCounted states running done killed lapsed w → any_done (drop 1 states) ≡ nat_lt 0 done
   unfolding any_done
@@ -109,26 +87,28 @@ count-at p [] i d h = absurd (omega arith)
 count-at p (x ∷ xs) zero d h = omega arith
 count-at p (x ∷ xs) (suc i) d h = omega (arith, count-at p xs i d (omega arith))
 
--- a change of the main state is not counted
-recounted : (p : ComponentState → Bool) (xs : List ComponentState) (i : ℕ) (old y : ComponentState) (n m : ℕ) → i < length xs → old ≡ get_or xs i old → n ≡ count_of p (drop 1 xs) →
-    m + bit (nat_lt 0 i && p old) ≡ n + bit (nat_lt 0 i && p y) → m ≡ count_of p (drop 1 (set xs i y))
-recounted p [] i old y n m h is a b = absurd (omega arith)
-recounted p (x ∷ xs) zero old y n m h is a b = omega arith
-recounted p (x ∷ xs) (suc i) old y n m h is a b =
+-- a change of another state than the main one is counted
+recounted : (p : ComponentState → Bool) (xs : List ComponentState) (i : ℕ) (old y : ComponentState) (n m : ℕ) → 0 < i → i < length xs → old ≡ get_or xs i old → n ≡ count_of p (drop 1 xs) →
+    m + bit (p old) ≡ n + bit (p y) → m ≡ count_of p (drop 1 (set xs i y))
+recounted p [] i old y n m other h is a b = absurd (omega arith)
+recounted p (x ∷ xs) zero old y n m other h is a b = absurd (omega arith)
+recounted p (x ∷ xs) (suc i) old y n m other h is a b =
     let e : bit (p old) ≡ bit (p (get_or xs i old)) = ap (λ s. bit (p s)) is in
     let f : count_of p (set xs i y) + bit (p (get_or xs i old)) ≡ count_of p xs + bit (p y) = count-set p xs i y old (omega arith) in
-    let t : nat_lt 0 (suc i) ≡ true = grind (arith, nat_tests) in
-    let c : m + bit (p old) ≡ n + bit (p y) = rw t at b in
     omega arith
 
-counted_at : (p : ComponentState → Bool) (xs : List ComponentState) (i : ℕ) (old : ComponentState) (n : ℕ) → i < length xs → old ≡ get_or xs i old → n ≡ count_of p (drop 1 xs) → bit (nat_lt 0 i && p old) ≤ n
-counted_at p [] i old n h is a = absurd (omega arith)
-counted_at p (x ∷ xs) zero old n h is a = omega arith
-counted_at p (x ∷ xs) (suc i) old n h is a =
+counted_at : (p : ComponentState → Bool) (xs : List ComponentState) (i : ℕ) (old : ComponentState) (n : ℕ) → 0 < i → i < length xs → old ≡ get_or xs i old → n ≡ count_of p (drop 1 xs) → bit (p old) ≤ n
+counted_at p [] i old n other h is a = absurd (omega arith)
+counted_at p (x ∷ xs) zero old n other h is a = absurd (omega arith)
+counted_at p (x ∷ xs) (suc i) old n other h is a =
     let e : bit (p old) ≡ bit (p (get_or xs i old)) = ap (λ s. bit (p s)) is in
     let f : bit (p (get_or xs i old)) ≤ count_of p xs = count-at p xs i old (omega arith) in
-    let t : nat_lt 0 (suc i) ≡ true = grind (arith, nat_tests) in
-    rw t (omega arith)
+    omega arith
+
+drop_set_main : (xs : List ComponentState) (i : ℕ) (y : ComponentState) → i ≤ 0 → drop 1 (set xs i y) ≡ drop 1 xs
+drop_set_main [] i y main = refl
+drop_set_main (x ∷ xs) zero y main = refl
+drop_set_main (x ∷ xs) (suc i) y main = absurd (omega arith)
 
 few_counted : (p : ComponentState → Bool) (xs : List ComponentState) (n : ℕ) → length xs ≤ COMPONENTS → n ≡ count_of p (drop 1 xs) → n ≤ COMPONENTS
 few_counted p [] n h e = omega arith
@@ -170,22 +150,38 @@ module _ {states : List ComponentState} {running done killed lapsed : ℕ} {w : 
         worst_is = k.worst_is ∙ sym (worst-more states alive);
       }
 
-  pub counted_set : (i : ℕ) (old y : ComponentState) (r d k l : ℕ) (v : Verdict) → IsCounted states running done killed lapsed w → i < length states → old ≡ get_or states i old →
+  pub counted_set : (i : ℕ) (old y : ComponentState) (r d k l : ℕ) (v : Verdict) → IsCounted states running done killed lapsed w → 0 < i → i < length states → old ≡ get_or states i old →
       level_of (get_or states i y).local ≤ level_of y.local →
-      r + bit (nat_lt 0 i && is_running old.phase) ≡ running + bit (nat_lt 0 i && is_running y.phase) →
-      d + bit (nat_lt 0 i && is_done old.phase) ≡ done + bit (nat_lt 0 i && is_done y.phase) →
-      k + bit (nat_lt 0 i && is_killed old.phase) ≡ killed + bit (nat_lt 0 i && is_killed y.phase) →
-      l + bit (nat_lt 0 i && is_lapsed old) ≡ lapsed + bit (nat_lt 0 i && is_lapsed y) →
+      r + bit (is_running old.phase) ≡ running + bit (is_running y.phase) →
+      d + bit (is_done old.phase) ≡ done + bit (is_done y.phase) →
+      k + bit (is_killed old.phase) ≡ killed + bit (is_killed y.phase) →
+      l + bit (is_lapsed old) ≡ lapsed + bit (is_lapsed y) →
       v ≡ worse w y.local → IsCounted (set states i y) r d k l v
-  counted_set i old y r d k l v c within is level a b e f g =
+  counted_set i old y r d k l v c other within is level a b e f g =
       let len = length-set states i y in
       record {
         some = omega (arith, c.some);
         few = omega (arith, c.few);
-        running_is = recounted (λ s. is_running s.phase) states i old y running r within is c.running_is a;
-        done_is = recounted (λ s. is_done s.phase) states i old y done d within is c.done_is b;
-        killed_is = recounted (λ s. is_killed s.phase) states i old y killed k within is c.killed_is e;
-        lapsed_is = recounted is_lapsed states i old y lapsed l within is c.lapsed_is f;
+        running_is = recounted (λ s. is_running s.phase) states i old y running r other within is c.running_is a;
+        done_is = recounted (λ s. is_done s.phase) states i old y done d other within is c.done_is b;
+        killed_is = recounted (λ s. is_killed s.phase) states i old y killed k other within is c.killed_is e;
+        lapsed_is = recounted is_lapsed states i old y lapsed l other within is c.lapsed_is f;
+        worst_is = g ∙ (ap (λ z. worse z y.local) c.worst_is ∙ sym (worst-set states i y y within level));
+      }
+
+  -- a change of the main state is not counted
+  pub main_set : (i : ℕ) (y : ComponentState) (v : Verdict) → IsCounted states running done killed lapsed w → i ≤ 0 → i < length states →
+      level_of (get_or states i y).local ≤ level_of y.local → v ≡ worse w y.local → IsCounted (set states i y) running done killed lapsed v
+  main_set i y v c main within level g =
+      let len = length-set states i y in
+      let same = drop_set_main states i y main in
+      record {
+        some = omega (arith, c.some);
+        few = omega (arith, c.few);
+        running_is = rw same c.running_is;
+        done_is = rw same c.done_is;
+        killed_is = rw same c.killed_is;
+        lapsed_is = rw same c.lapsed_is;
         worst_is = g ∙ (ap (λ z. worse z y.local) c.worst_is ∙ sym (worst-set states i y y within level));
       }
 
@@ -201,17 +197,17 @@ module _ {states : List ComponentState} {running done killed lapsed : ℕ} {w : 
   pub few_states : IsCounted states running done killed lapsed w → length states ≤ COMPONENTS
   few_states k = k.few
 
-  pub running_at : (i : ℕ) (old : ComponentState) → IsCounted states running done killed lapsed w → i < length states → old ≡ get_or states i old → bit (nat_lt 0 i && is_running old.phase) ≤ running
-  running_at i old k h is = counted_at (λ s. is_running s.phase) states i old running h is k.running_is
+  pub running_at : (i : ℕ) (old : ComponentState) → IsCounted states running done killed lapsed w → 0 < i → i < length states → old ≡ get_or states i old → bit (is_running old.phase) ≤ running
+  running_at i old k other h is = counted_at (λ s. is_running s.phase) states i old running other h is k.running_is
 
-  pub done_at : (i : ℕ) (old : ComponentState) → IsCounted states running done killed lapsed w → i < length states → old ≡ get_or states i old → bit (nat_lt 0 i && is_done old.phase) ≤ done
-  done_at i old k h is = counted_at (λ s. is_done s.phase) states i old done h is k.done_is
+  pub done_at : (i : ℕ) (old : ComponentState) → IsCounted states running done killed lapsed w → 0 < i → i < length states → old ≡ get_or states i old → bit (is_done old.phase) ≤ done
+  done_at i old k other h is = counted_at (λ s. is_done s.phase) states i old done other h is k.done_is
 
-  pub killed_at : (i : ℕ) (old : ComponentState) → IsCounted states running done killed lapsed w → i < length states → old ≡ get_or states i old → bit (nat_lt 0 i && is_killed old.phase) ≤ killed
-  killed_at i old k h is = counted_at (λ s. is_killed s.phase) states i old killed h is k.killed_is
+  pub killed_at : (i : ℕ) (old : ComponentState) → IsCounted states running done killed lapsed w → 0 < i → i < length states → old ≡ get_or states i old → bit (is_killed old.phase) ≤ killed
+  killed_at i old k other h is = counted_at (λ s. is_killed s.phase) states i old killed other h is k.killed_is
 
-  pub lapsed_at : (i : ℕ) (old : ComponentState) → IsCounted states running done killed lapsed w → i < length states → old ≡ get_or states i old → bit (nat_lt 0 i && is_lapsed old) ≤ lapsed
-  lapsed_at i old k h is = counted_at is_lapsed states i old lapsed h is k.lapsed_is
+  pub lapsed_at : (i : ℕ) (old : ComponentState) → IsCounted states running done killed lapsed w → 0 < i → i < length states → old ≡ get_or states i old → bit (is_lapsed old) ≤ lapsed
+  lapsed_at i old k other h is = counted_at is_lapsed states i old lapsed other h is k.lapsed_is
 
   pub few_running : IsCounted states running done killed lapsed w → running ≤ COMPONENTS
   few_running k = few_counted (λ s. is_running s.phase) states running k.few k.running_is
@@ -232,4 +228,4 @@ pub counted_main : IsCounted (main_state ∷ []) 0 0 0 0 Verdict.None
 unfolding worst_local
 counted_main = record { some = omega arith; few = omega arith; running_is = refl; done_is = refl; killed_is = refl; lapsed_is = refl; worst_is = refl }
 
-pub ruleset counted_rules = (any_running_is, none_running_is, any_killed_is, all_killed_is, any_alive_is, all_alive_is, any_done_is, none_lapsed_is, some_counted, few_states, running_at, done_at, killed_at, lapsed_at, few_running, few_done, few_killed, few_lapsed, worst_counted)
+pub ruleset counted_rules = (none_running_is, any_killed_is, all_killed_is, any_done_is, none_lapsed_is, some_counted, few_states, running_at, done_at, killed_at, lapsed_at, few_running, few_done, few_killed, few_lapsed, worst_counted)

@@ -2,7 +2,7 @@
 use Rattle.std.proofs.{Common.{ℕ, ◌≡◌, ◌≢◌, ◌<◌, ◌≤◌, ◌==◌, ◌&&◌, ◌||◌, not, if◌then◌else◌, Bool, true, false, Option, Some, None, List, [], ◌∷◌, length, get_or, refl, ap, sym, ◌∙◌, arith, get_or-set_other, get_or-set_same}, Math.ListN.set, Math.Bool.or-false, lemmas.Bool.Decides.nat_tests, lemmas.List.get_or_default}
 use Rattle.tc_entry.specs.{Prelude.{Verdict, Run, level_of, is_ended, is_fault, is_ok}, declared.comp.Comp.Comp, declared.entry.Entry.Entry, declared.op.Group.Group, declared.op.Op.Op, declared.reply.Reply.Reply}
 use Rattle.tc_verdict.proofs.Lemmas.Order.{worse_left}
-use Rattle.tc_rules.{specs.{History.{ends_case, halts, is_comp, is_finish, is_kill_of, is_stop_case, is_stop_of, kills, comp_of, created}, Inside.Words.{first_some, starts_on, started_run}, Inside.Step.{IsSettled, next_excused, next_local, next_phase, next_state, touched, touched_by, touched_own, asks, next_run}, Local.{gives, setting}, Phases.{halts_from_outside, start_in}, Status.is_running, Answers.answer, Inside.Kept.IsKept, Standing.{Kept, StandsFor}, declared.component_state.ComponentState.ComponentState, declared.step.Scope.Scope, declared.run_state.RunState.RunState}, proofs.{Lemmas.Deciding.{if_same, and_no}, Lemmas.Keeping.{keeps_entry, stands_by}, Settled.settled_kept}}
+use Rattle.tc_rules.{specs.{History.{ends_case, halts, is_comp, is_finish, is_kill_of, is_stop_case, is_stop_of, kills, comp_of, created}, Inside.Words.{first_some, starts_on, started_run}, Inside.Step.{IsNextRun, IsSettled, next_excused, next_local, next_phase, next_state, touched, touched_by, touched_own, asks}, Local.{gives, setting}, Phases.{halts_from_outside, start_in}, Status.is_running, Answers.answer, Inside.Kept.IsKept, Standing.{Kept, StandsFor}, declared.component_state.ComponentState.ComponentState, declared.step.Scope.Scope, declared.run_state.RunState.RunState}, proofs.{Lemmas.Deciding.{if_same, and_no}, Lemmas.Keeping.{keeps_entry, stands_by}, Runs.{caller_changed, none_started}, Settled.settled_kept}}
 
 -- what is known of an operation that does not touch component c
 record Spares (own : Option Comp) (op : Op) (c : ℕ) : Type 0 where
@@ -87,7 +87,7 @@ elsewhere own e c s h settled =
 
 -- a local verdict gets no better
 
-local_le : (vs : List Verdict) (l : Verdict) → level_of l ≤ level_of (next_local vs l)
+pub local_le : (vs : List Verdict) (l : Verdict) → level_of l ≤ level_of (next_local vs l)
 local_le [] l = omega arith
 local_le (v ∷ vs) l = let a = local_le vs l in let b = worse_left (next_local vs l) v in omega arith
 
@@ -158,11 +158,11 @@ asks_of own e = by_op own e.caller e.op e.reply
 -- what is kept of the components stays as it is
 pub keeps_asking : (v k : Kept) (past : List Entry) (e : Entry) (runs' : List RunState) → v ≡ k → StandsFor k past →
     e.reply ≡ answer k.behaviours past e.caller.0 e.op → asks e.op ≡ true → is_fault e.reply ≡ false →
-    length runs' ≡ length v.runs → ((b : ℕ) (d : RunState) → b < length v.runs → get_or runs' b d ≡ next_run e b (get_or v.runs b d)) →
+    length runs' ≡ length v.runs → IsNextRun e e.caller.0 v.runs runs' → ((b : ℕ) (d : RunState) → b ≢ e.caller.0 → get_or runs' b d ≡ get_or v.runs b d) →
     IsKept v.behaviours (e ∷ past) v.states runs' v.over
 unfolding StandsFor
-keeps_asking v k past e runs' same stands legal asking plain as_many changed =
+keeps_asking v k past e runs' same stands legal asking plain as_many at others =
     let kept : StandsFor v past = stands_by k v past (sym same) stands in
     let quiet = asks_of (comp_of past e.caller.0) e asking plain in
     keeps_entry v k past e v.states runs' (comp_of past e.caller.0) v.over same stands legal refl quiet.makes refl
-    (none_changed (comp_of past e.caller.0) e v.states (settled_kept kept) quiet.touches) as_many changed (rw quiet.goes_on (sym (or-false v.over)))
+    (none_changed (comp_of past e.caller.0) e v.states (settled_kept kept) quiet.touches) as_many (caller_changed e v.runs runs' (none_started e quiet.starts) at others) (rw quiet.goes_on (sym (or-false v.over)))

@@ -1,4 +1,5 @@
 -- The lemmas that other crates cite.
+pub mod Decided
 pub mod Deciding
 pub mod Differing
 pub mod Fresh

@@ -5,7 +5,6 @@ pub mod Making
 pub mod Settled
 pub mod Runs
 pub mod Counting
-pub mod Decided
 pub mod Determined
 pub mod Named
 pub mod Elsewhere

@@ -1,7 +1,7 @@
 -- What the table keeps is right after an entry that makes a component.
-use Rattle.std.{proofs.{Common.{ℕ, ◌≡◌, ◌+◌, ◌<◌, ◌==◌, ◌&&◌, ◌||◌, if◌then◌else◌, Bool, true, false, Option, Some, None, List, [], ◌∷◌, ◌++◌, length, get_or, refl, ap, subst, sym, ◌∙◌, arith, length-append, below_more, suc, ◌≤◌}, lemmas.Bool.Decides.nat_tests, lemmas.List.get_or_append_left, Math.Seq.get_or-append_seam}, specs.List.list_all}
+use Rattle.std.{proofs.{Common.{ℕ, ◌≡◌, ◌+◌, ◌<◌, ◌==◌, ◌&&◌, ◌||◌, if◌then◌else◌, Bool, true, false, Option, Some, None, List, [], ◌∷◌, ◌++◌, length, get_or, refl, ap, subst, sym, ◌∙◌, arith, length-append, below_more, suc, ◌≤◌}, lemmas.Bool.Decides.nat_tests, lemmas.List.get_or_append_left, Math.Seq.get_or-append_seam}}
 use Rattle.tc_entry.specs.{declared.comp.Comp.Comp, declared.entry.Entry.Entry, declared.limits.TheConstants.{COMPONENTS, BEHAVIOURS}, declared.op.Op.Op, declared.reply.Reply.Reply, Prelude.Run}
-use Rattle.tc_rules.{specs.{Answers.answer, Faults.{all_exist, components, target_names}, History.{add_new, comp_of, comps, created, exists, is_alive_create, is_comp, is_in}, Inside.Words.first_some, Inside.Counts.{made_state, main_state}, Inside.Kept.{IsKept, numbers_from, state_of, blank, run_of}, Inside.Step.{next_local, next_run, next_state}, Phases.{was_halted, was_killed, last_run, phase}, Standing.{Kept, StandsFor}, Status.is_running, Waiting.waiting, Local.local, declared.awaited.Awaited.Awaited, declared.component_state.ComponentState.ComponentState, declared.run_state.RunState.RunState}, proofs.{Lemmas.Deciding.other_comp, Lemmas.Fresh.fresh_step, Lemmas.Keeping.stands_by, Lemmas.Kept.{components_kept, exists_if, exists_unless}, Lemmas.Numbers.numbers_from-more, Lemmas.Sound.next, Lemmas.Steps.{run_step, state_step}, Settled.running_not_excused}}
+use Rattle.tc_rules.{specs.{Answers.answer, Faults.{components, target_names}, History.{add_new, comp_of, comps, created, exists, is_alive_create, is_comp, is_in}, Inside.Words.first_some, Inside.Counts.{made_state, main_state}, Inside.Kept.{IsKept, numbers_from, state_of, blank, run_of}, Inside.Step.{next_local, next_run, next_state}, Phases.{was_halted, was_killed, last_run, phase}, Standing.{Kept, StandsFor}, Status.is_running, Waiting.waiting, Local.local, declared.awaited.Awaited.Awaited, declared.component_state.ComponentState.ComponentState, declared.run_state.RunState.RunState}, proofs.{Lemmas.Deciding.other_comp, Lemmas.Fresh.fresh_step, Lemmas.Keeping.stands_by, Lemmas.Kept.{components_kept, exists_if, exists_unless}, Lemmas.Numbers.numbers_from-more, Lemmas.Over.still_exist, Lemmas.Sound.next, Lemmas.Steps.{run_step, state_step}, Settled.running_not_excused}}
 
 abbrev create : Run → Bool → Option (List ℕ) → Comp → Entry
 create caller alive name d = record { caller = caller; op = Op.Create alive name; reply = Reply.Made d }
@@ -28,31 +28,9 @@ if_none : {A : Type 0} (t : Bool) (x : Option A) → x ≡ None → (if t then N
 if_none true x h = refl
 if_none false x h = h
 
-exist_more : (past : List Entry) (e : Entry) (cs : List Comp) (more : (c : ℕ) → exists past c ≡ true → exists (e ∷ past) c ≡ true) → all_exist past cs ≡ true → all_exist (e ∷ past) cs ≡ true
-unfolding all_exist
-exist_more past e [] more h = refl
-exist_more past e (c ∷ cs) more h = both (exists past c.0) (list_all (λ x. exists past x.0) cs) (exists (e ∷ past) c.0) (list_all (λ x. exists (e ∷ past) x.0) cs) (more c.0) (exist_more past e cs more) h
-  where
-    both : (a b a' b' : Bool) → (a ≡ true → a' ≡ true) → (b ≡ true → b' ≡ true) → (a && b) ≡ true → (a' && b') ≡ true
-    both true true a' b' f g h = rw (f refl, g refl)
-    both true false a' b' f g h = absurd cc
-    both false b a' b' f g h = absurd cc
-
-in_more : (c : ℕ) (ns : List ℕ) (d : ℕ) → is_in c ns ≡ true → is_in c (ns ++ d ∷ []) ≡ true
-in_more c [] d h = absurd cc
-in_more c (n ∷ ns) d h = either (c == n) (is_in c ns) (is_in c (ns ++ d ∷ [])) (in_more c ns d) h
-  where
-    either : (a b b' : Bool) → (b ≡ true → b' ≡ true) → (a || b) ≡ true → (a || b') ≡ true
-    either true b b' f h = refl
-    either false b b' f h = f h
-
 not_in : (past : List Entry) (c : ℕ) → exists past c ≡ false → is_in c (comps past) ≡ false
 unfolding exists
 not_in past c h = h
-
-exists_more : (past : List Entry) (e : Entry) (d : ℕ) → comps (e ∷ past) ≡ comps past ++ d ∷ [] → (c : ℕ) → exists past c ≡ true → exists (e ∷ past) c ≡ true
-unfolding exists
-exists_more past e d grown c h = rw grown (in_more c (comps past) d h)
 
 numbered_more : (k m d : ℕ) (ns : List ℕ) → ns ≡ numbers_from 0 k → d ≡ k → m ≡ k + 1 → ns ++ d ∷ [] ≡ numbers_from 0 m
 numbered_more k m d ns a b c =
@@ -88,7 +66,6 @@ module _ {n : ℕ} {past : List Entry} {states : List ComponentState} {runs : Li
       let e : Entry = create caller alive name d in
       let out : exists past d.0 ≡ false = exists_unless d.0 kept (omega arith) in
       let grown : comps (e ∷ past) ≡ comps past ++ d.0 ∷ [] = add_one d (comps past) (not_in past d.0 out) in
-      let more : (c : ℕ) → exists past c ≡ true → exists (e ∷ past) c ≡ true = exists_more past e d.0 grown in
       let len : length (states ++ made_state alive ∷ []) ≡ length states + 1 = length-append states (made_state alive ∷ []) in
       record {
         behaviours = kept.behaviours;
@@ -118,7 +95,7 @@ module _ {n : ℕ} {past : List Entry} {states : List ComponentState} {runs : Li
         no_other_run = λ b h. (no_more (comp_of past b) ∙ (kept.no_other_run b h).0, if_none (caller.0 == b) (waiting past b) (kept.no_other_run b h).1);
         on_existing = λ b v h. let k : v.0 < length states = kept.on_existing b v (sym (no_more (comp_of past b)) ∙ h) in omega arith;
         halted_if_killed = λ c. killed_same (exists past c) (was_killed past c) (was_halted past c) (kept.halted_if_killed c);
-        waits_for_existing = λ b a w. exist_more past e (target_names a.target) more (kept.waits_for_existing b a (waits_if (caller.0 == b) (waiting past b) a w));
+        waits_for_existing = λ b a w. still_exist past e (target_names a.target) (kept.waits_for_existing b a (waits_if (caller.0 == b) (waiting past b) a w));
         on_last = λ c r l. no_more (comp_of past r.0) ∙ kept.on_last c r l;
         over_is = kept.over_is;
         legal = (legal, kept.legal);

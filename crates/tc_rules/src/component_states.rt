@@ -39,12 +39,6 @@ fn is_lapsed(state: ComponentState) -> bool
     state.last.is_some() && !is_running(state.phase) && !state.excused
 }
 
-fn both(a: bool, b: bool) -> bool
-    ensures { result ≡ (a && b) }
-{
-    a && b
-}
-
 /// A count, after one of the things that it is over has changed.
 fn recount(count: u32, was: bool, is: bool) -> u32
     requires had { bit was ≤ count }
@@ -66,10 +60,8 @@ impl ComponentStates {
     pub(crate) fn copied(&self, alloc: Global) -> Result<ComponentStates, NoMemory>
         ensures { IfOk result (λ s. s ≡ self.now) }
     {
-        let mut states = Vec::with_capacity(alloc, self.states.len())?;
-        states.extend_from_slice(self.states.as_slice())?;
         Ok(ComponentStates {
-            states,
+            states: Vec::from_slice(alloc, self.states.as_slice())?,
             running: self.running,
             done: self.done,
             killed: self.killed,
@@ -82,18 +74,15 @@ impl ComponentStates {
     pub(crate) fn new(alloc: Global) -> Result<ComponentStates, AllocError>
         ensures { IfOk result (λ s. s ≡ main_state ∷ []) }
     {
-        let mut states = Vec::new(alloc);
-        states
-            .push(ComponentState {
-                phase: Phase::Running(Run(0)),
-                alive_type: false,
-                last: Some(Run(0)),
-                excused: false,
-                local: Verdict::None,
-            })
-            .map_err(AllocError::from)?;
+        let main = ComponentState {
+            phase: Phase::Running(Run(0)),
+            alive_type: false,
+            last: Some(Run(0)),
+            excused: false,
+            local: Verdict::None,
+        };
         Ok(ComponentStates {
-            states,
+            states: Vec::from_slice(alloc, &[main])?,
             running: 0,
             done: 0,
             killed: 0,
@@ -143,34 +132,14 @@ impl ComponentStates {
         ensures { self.new ≡ slice_set self.old i state }
     {
         let old = self.states[i];
-        let counts = i > 0;
-        let running = recount(
-            self.running,
-            both(counts, is_running(old.phase)),
-            both(counts, is_running(state.phase)),
-        );
-        let done = recount(
-            self.done,
-            both(counts, is_done(old.phase)),
-            both(counts, is_done(state.phase)),
-        );
-        let killed = recount(
-            self.killed,
-            both(counts, is_killed(old.phase)),
-            both(counts, is_killed(state.phase)),
-        );
-        let lapsed = recount(
-            self.lapsed,
-            both(counts, is_lapsed(old)),
-            both(counts, is_lapsed(state)),
-        );
-        let worst = worse_of(self.worst, state.local);
+        if i > 0 {
+            self.running = recount(self.running, is_running(old.phase), is_running(state.phase));
+            self.done = recount(self.done, is_done(old.phase), is_done(state.phase));
+            self.killed = recount(self.killed, is_killed(old.phase), is_killed(state.phase));
+            self.lapsed = recount(self.lapsed, is_lapsed(old), is_lapsed(state));
+        }
+        self.worst = worse_of(self.worst, state.local);
         self.states[i] = state;
-        self.running = running;
-        self.done = done;
-        self.killed = killed;
-        self.lapsed = lapsed;
-        self.worst = worst;
     }
 
     /// Changes the state of component i, whose local verdict gets no better. Most calls leave it as it was.
@@ -183,12 +152,6 @@ impl ComponentStates {
         if !are_same(self.get(i), state) {
             self.replace(i, state);
         }
-    }
-
-    pub(crate) fn any_running(&self) -> bool
-        ensures { result ≡ tests.any_running (drop 1 self.now) }
-    {
-        0 < self.running
     }
 
     pub(crate) fn none_running(&self) -> bool
@@ -207,18 +170,6 @@ impl ComponentStates {
         ensures { result ≡ tests.all_killed (drop 1 self.now) }
     {
         self.killed as usize + 1 == self.states.as_slice().len()
-    }
-
-    pub(crate) fn any_alive(&self) -> bool
-        ensures { result ≡ tests.any_alive (drop 1 self.now) }
-    {
-        self.killed as usize + 1 < self.states.as_slice().len()
-    }
-
-    pub(crate) fn all_alive(&self) -> bool
-        ensures { result ≡ tests.all_alive (drop 1 self.now) }
-    {
-        self.killed == 0
     }
 
     pub(crate) fn any_done(&self) -> bool

@@ -28,7 +28,7 @@ fn later_deciding(
 
 /// The place of the deciding entry, counted from 0: the first after which the overall verdict is the one of the whole
 /// history. There is none if that is none.
-#[tactic(auto, using(crate::proofs::Decided::none_given))]
+#[tactic(auto, using(crate::proofs::Lemmas::Decided::none_given))]
 pub fn deciding_entry(history: &[Entry]) -> Option<usize>
     ensures is { result ≡ spec.deciding (reverse history.now) }
     ensures within { IfSome result (λ at. at < length history.now) }

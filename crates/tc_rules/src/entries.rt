@@ -1,5 +1,5 @@
 //! What one entry says of the case, of a component and of a run.
-ghost use Rattle.std.specs.Prelude.{◌≡◌};
+ghost use Rattle.std.specs.Prelude.{◌≡◌, ◌||◌};
 ghost use Rattle.tc_rules.specs.History as history;
 ghost use Rattle.tc_rules.specs.Laws as laws;
 ghost use Rattle.tc_rules.specs.Inside.Words.{started_run};
@@ -25,19 +25,13 @@ pub(crate) fn is_stop_case(op: &Op) -> bool
 pub(crate) fn is_stop_of(op: &Op, comp: u32) -> bool
     ensures { result ≡ history.is_stop_of op.now comp }
 {
-    match op {
-        Op::Stop(group) => group.is_of(comp),
-        _ => false,
-    }
+    matches!(op, Op::Stop(group) if group.is_of(comp))
 }
 
 pub(crate) fn is_kill_of(op: &Op, comp: u32) -> bool
     ensures { result ≡ history.is_kill_of op.now comp }
 {
-    match op {
-        Op::Kill(group) => group.is_of(comp),
-        _ => false,
-    }
+    matches!(op, Op::Kill(group) if group.is_of(comp))
 }
 
 /// Whether the operation can halt a component's run by its reply Ok: stop, kill, testcase.stop, or the end of a behaviour.
@@ -58,10 +52,7 @@ pub fn keeps_phases(op: &Op) -> bool
 pub fn is_comp(own: Option<Comp>, comp: u32) -> bool
     ensures { result ≡ history.is_comp own comp }
 {
-    match own {
-        Some(c) => c.0 == comp,
-        None => false,
-    }
+    matches!(own, Some(c) if c.0 == comp)
 }
 
 /// Whether the entry ends the test case.
@@ -74,6 +65,28 @@ pub fn ends_case(entry: &Entry) -> bool
             || (is_finish(&entry.op) && entry.caller.0 == 0)
             || is_stop_of(&entry.op, 0)
             || is_kill_of(&entry.op, 0))
+}
+
+/// Whether the operation is a Stop or Kill of the component.
+fn is_end_of(op: &Op, comp: u32) -> bool
+    ensures { result ≡ (history.is_stop_of op.now comp || history.is_kill_of op.now comp) }
+{
+    matches!(op, Op::Stop(group) | Op::Kill(group) if group.is_of(comp))
+}
+
+/// Whether an entry by a run on component own ends its pass.
+#[tactic(auto, unfolding(crate::specs::History::ends_pass))]
+pub fn ends_pass(own: Comp, entry: &Entry) -> bool
+    ensures { result ≡ history.ends_pass own entry.now }
+{
+    match entry.reply {
+        Reply::Ended | Reply::Fault(_) => true,
+        _ => {
+            matches!(entry.op, Op::Finish | Op::StopCase)
+                || is_end_of(&entry.op, 0)
+                || is_end_of(&entry.op, own.0)
+        }
+    }
 }
 
 pub(crate) fn kills(entry: &Entry, comp: u32) -> bool
@@ -103,13 +116,9 @@ pub(crate) fn halts_from_outside(own: Option<Comp>, entry: &Entry, comp: u32) ->
 pub(crate) fn start_in(entry: &Entry, comp: u32) -> Option<Run>
     ensures { result ≡ phases.start_in entry.now comp }
 {
-    if entry.reply.is_ok() {
-        match &entry.op {
-            Op::Start { comp: c, run, .. } => { if c.0 == comp { Some(*run) } else { None } }
-            _ => None,
-        }
-    } else {
-        None
+    match &entry.op {
+        Op::Start { comp: c, run, .. } if entry.reply.is_ok() && c.0 == comp => Some(*run),
+        _ => None,
     }
 }
 
@@ -138,13 +147,9 @@ pub(crate) fn parks(op: &Op, reply: Reply) -> Option<Awaited>
 pub fn started_on(entry: &Entry, run: u16) -> Option<Comp>
     ensures { result ≡ history.started_on entry.now run }
 {
-    if entry.reply.is_ok() {
-        match &entry.op {
-            Op::Start { comp, run: b, .. } => { if b.0 == run { Some(*comp) } else { None } }
-            _ => None,
-        }
-    } else {
-        None
+    match &entry.op {
+        Op::Start { comp, run: b, .. } if entry.reply.is_ok() && b.0 == run => Some(*comp),
+        _ => None,
     }
 }
 
@@ -162,11 +167,8 @@ pub(crate) fn started_run(op: &Op) -> Option<Run>
 pub fn created(op: &Op, reply: Reply) -> Option<Comp>
     ensures { result ≡ history.created op.now reply }
 {
-    match op {
-        Op::Create { .. } => match reply {
-            Reply::Made(comp) => Some(comp),
-            _ => None,
-        },
+    match (op, reply) {
+        (Op::Create { .. }, Reply::Made(comp)) => Some(comp),
         _ => None,
     }
 }
@@ -175,8 +177,5 @@ pub fn created(op: &Op, reply: Reply) -> Option<Comp>
 pub(crate) fn is_alive_create(op: &Op) -> bool
     ensures { result ≡ history.is_alive_create op.now }
 {
-    match op {
-        Op::Create { alive, .. } => *alive,
-        _ => false,
-    }
+    matches!(op, Op::Create { alive: true, .. })
 }

@@ -21,10 +21,8 @@ pub(crate) fn opening_runs(alloc: Global, n: u16) -> Result<Vec<RunState>, Alloc
     let mut runs = Vec::with_capacity(alloc, usize::from(n))?;
     for b in 0..n {
         let comp = if b == 0 { Some(Comp(0)) } else { None };
-        runs.push(RunState {
-            comp,
-            waiting: None,
-        })?;
+        let waiting = None;
+        runs.push(RunState { comp, waiting })?;
     }
     Ok(runs)
 }

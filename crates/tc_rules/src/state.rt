@@ -11,7 +11,6 @@ ghost use Rattle.tc_rules.specs.Legal as legal;
 mod adding;
 mod answers;
 mod faults;
-mod parked;
 mod status;
 mod waiting;
 
@@ -54,12 +53,10 @@ impl CaseState {
         ensures behaviours { IfOk result (λ s. s.behaviours ≡ behaviours) }
         ensures opening { IfOk result (λ s. StandsFor s []) }
     {
-        let states = ComponentStates::new(alloc)?;
-        let runs = opening_runs(alloc, behaviours)?;
         Ok(CaseState {
             behaviours,
-            states,
-            runs,
+            states: ComponentStates::new(alloc)?,
+            runs: opening_runs(alloc, behaviours)?,
             over: false,
         })
     }
@@ -68,13 +65,10 @@ impl CaseState {
     pub fn copied(&self, alloc: Global) -> Result<CaseState, NoMemory>
         ensures { IfOk result (λ s. s ≡ self.now) }
     {
-        let states = self.states.copied(alloc)?;
-        let mut runs = Vec::with_capacity(alloc, self.runs.len())?;
-        runs.extend_from_slice(self.runs.as_slice())?;
         Ok(CaseState {
             behaviours: self.behaviours,
-            states,
-            runs,
+            states: self.states.copied(alloc)?,
+            runs: Vec::from_slice(alloc, self.runs.as_slice())?,
             over: self.over,
         })
     }
@@ -148,12 +142,7 @@ impl CaseState {
     pub fn phase_of(&self, comp: Comp) -> Option<Phase>
         ensures { (past : List Entry) → StandsFor self.now past → result ≡ phases.phase_if_any past comp.0 }
     {
-        let states = self.states.as_slice();
-        if (comp.0 as usize) < states.len() {
-            Some(states[comp.0 as usize].phase)
-        } else {
-            None
-        }
+        Some(self.states.as_slice().get(comp.0 as usize)?.phase)
     }
 
     /// Whether a component is there and alive-type.
@@ -161,11 +150,9 @@ impl CaseState {
     pub fn is_alive_type(&self, comp: Comp) -> bool
         ensures { (past : List Entry) → StandsFor self.now past → result ≡ history.is_alive_type past comp.0 }
     {
-        let states = self.states.as_slice();
-        if (comp.0 as usize) < states.len() {
-            states[comp.0 as usize].alive_type
-        } else {
-            false
+        match self.states.as_slice().get(comp.0 as usize) {
+            Some(state) => state.alive_type,
+            None => false,
         }
     }
 
@@ -174,24 +161,14 @@ impl CaseState {
     pub fn last_run(&self, comp: Comp) -> Option<Run>
         ensures { (past : List Entry) → StandsFor self.now past → result ≡ phases.last_run past comp.0 }
     {
-        let states = self.states.as_slice();
-        if (comp.0 as usize) < states.len() {
-            states[comp.0 as usize].last
-        } else {
-            None
-        }
+        self.states.as_slice().get(comp.0 as usize)?.last
     }
 
     /// The local verdict of a component.
     pub fn local(&self, comp: Comp) -> Option<Verdict>
         ensures { (past : List Entry) → StandsFor self.now past → result ≡ verdicts.local_if_any past comp.0 }
     {
-        let states = self.states.as_slice();
-        if (comp.0 as usize) < states.len() {
-            Some(states[comp.0 as usize].local)
-        } else {
-            None
-        }
+        Some(self.states.as_slice().get(comp.0 as usize)?.local)
     }
 
     /// The worst of the local verdicts.

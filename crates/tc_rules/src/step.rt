@@ -1,5 +1,5 @@
 //! What one more entry does to what is kept of components and runs.
-ghost use Rattle.std.specs.{Prelude.{◌≡◌, ◌≢◌, ℕ, None, false, length, slice_index_or, IsTrue}, Option.option_or};
+ghost use Rattle.std.specs.Prelude.{◌≡◌, ◌≢◌, ℕ, None, false, length, slice_index_or, IsTrue};
 ghost use Rattle.tc_rules.specs.History as history;
 ghost use Rattle.tc_rules.specs.Local as verdicts;
 ghost use Rattle.tc_rules.specs.Inside.Words.{started_run};
@@ -18,16 +18,9 @@ fn halted(alive_type: bool, phase: Phase) -> Phase
     ensures { result ≡ step.halted alive_type phase }
 {
     match phase {
-        Phase::Running(_) => {
-            if alive_type {
-                Phase::Stopped
-            } else {
-                Phase::Killed
-            }
-        }
-        Phase::Inactive => Phase::Inactive,
-        Phase::Stopped => Phase::Stopped,
-        Phase::Killed => Phase::Killed,
+        Phase::Running(_) if alive_type => Phase::Stopped,
+        Phase::Running(_) => Phase::Killed,
+        Phase::Inactive | Phase::Stopped | Phase::Killed => phase,
     }
 }
 
@@ -39,13 +32,8 @@ fn next_phase(kill: bool, start: Option<Run>, halt: bool, alive_type: bool, phas
     }
     match start {
         Some(run) => Phase::Running(run),
-        None => {
-            if halt {
-                halted(alive_type, phase)
-            } else {
-                phase
-            }
-        }
+        None if halt => halted(alive_type, phase),
+        None => phase,
     }
 }
 
@@ -72,16 +60,6 @@ pub(crate) fn next_local(op: &Op, reply: Reply, local: Verdict) -> Verdict
     }
 }
 
-/// The run that is started, otherwise the last one before.
-fn later(start: Option<Run>, last: Option<Run>) -> Option<Run>
-    ensures { result ≡ option_or start last }
-{
-    match start {
-        Some(run) => Some(run),
-        None => last,
-    }
-}
-
 /// What is known of a component after one more entry, whose caller is on component own.
 #[tactic(auto, unfolding(crate::specs::Inside::Step::next_state))]
 #[inline(always)]
@@ -103,7 +81,7 @@ fn next_state(own: Option<Comp>, entry: &Entry, comp: u32, state: ComponentState
             state.phase,
         ),
         alive_type: state.alive_type,
-        last: later(start, state.last),
+        last: start.or(state.last),
         excused: next_excused(
             start,
             halts_from_outside(own, entry, comp),
@@ -125,10 +103,7 @@ pub(crate) enum Scope {
 fn touched_own(own: Option<Comp>) -> Scope
     ensures { result ≡ step.touched_own own }
 {
-    match own {
-        Some(comp) => Scope::One(comp),
-        None => Scope::Nothing,
-    }
+    own.map_or(Scope::Nothing, Scope::One)
 }
 
 fn touched_group(group: Group) -> Scope
@@ -163,19 +138,7 @@ fn touched(own: Option<Comp>, entry: &Entry) -> Scope
     }
 }
 
-/// Brings what is known of all components up to one more entry.
-fn take_in_all(states: &mut ComponentStates, own: Option<Comp>, entry: &Entry)
-    ensures as_many { length states.new ≡ length states.old }
-    ensures each { step.AreNext own entry.now states.old states.new }
-{
-    let count = states.as_slice().len();
-    for i in 0..count {
-        let state = states.get(i);
-        states.set(i, next_state(own, entry, i as u32, state));
-    }
-}
-
-/// The same, for an entry that touches only one component.
+/// Brings what is known of the components up to one more entry, which touches only one of them.
 #[inline(always)]
 fn take_in_one(states: &mut ComponentStates, own: Option<Comp>, entry: &Entry, comp: Comp)
     requires settled { step.IsSettled states.old }
@@ -213,32 +176,23 @@ fn finds(op: &Op, phase: Phase) -> bool
     }
 }
 
-/// The same, for a call on all components that does not end the case: it writes only those that it finds.
-fn take_in_found(states: &mut ComponentStates, own: Option<Comp>, entry: &Entry)
-    requires settled { step.IsSettled states.old }
-    requires goes_on { history.ends_case entry.now ≡ false }
-    ensures as_many { length states.new ≡ length states.old }
-    ensures each { step.AreNext own entry.now states.old states.new }
-{
-    let count = states.as_slice().len();
-    for i in 0..count {
-        let state = states.get(i);
-        if finds(&entry.op, state.phase) {
-            states.set(i, next_state(own, entry, i as u32, state));
-        }
-    }
-}
-
-/// The same, for an entry that may touch every component: it goes over them only if it may change one.
+/// The same, for an entry that may touch every component: it goes over them only if it may change one. If it does not end
+/// the case, it writes only those that it finds.
 fn take_in_many(states: &mut ComponentStates, own: Option<Comp>, entry: &Entry)
     requires settled { step.IsSettled states.old }
     ensures as_many { length states.new ≡ length states.old }
     ensures each { step.AreNext own entry.now states.old states.new }
 {
-    if ends_case(entry) {
-        take_in_all(states, own, entry);
-    } else if !finds_none(&entry.op, states) {
-        take_in_found(states, own, entry);
+    let ends = ends_case(entry);
+    if !ends && finds_none(&entry.op, states) {
+        return;
+    }
+    let count = states.as_slice().len();
+    for i in 0..count {
+        let state = states.get(i);
+        if ends || finds(&entry.op, state.phase) {
+            states.set(i, next_state(own, entry, i as u32, state));
+        }
     }
 }
 
@@ -280,19 +234,12 @@ pub(crate) fn asks(op: &Op) -> bool
 fn next_run(entry: &Entry, run: u16, state: RunState) -> RunState
     ensures { result ≡ step.next_run entry.now run state }
 {
-    let waiting = if entry.caller.0 == run {
-        parks(&entry.op, entry.reply)
-    } else {
-        state.waiting
-    };
-    match state.comp {
-        Some(comp) => RunState {
-            comp: Some(comp),
-            waiting,
-        },
-        None => RunState {
-            comp: started_on(entry, run),
-            waiting,
+    RunState {
+        comp: state.comp.or_else(|| started_on(entry, run)),
+        waiting: if entry.caller.0 == run {
+            parks(&entry.op, entry.reply)
+        } else {
+            state.waiting
         },
     }
 }
@@ -309,7 +256,7 @@ fn keeps_run(entry: &Entry, state: RunState) -> bool
 
 /// Brings what is known of one run up to one more entry.
 #[inline(always)]
-fn take_in_run(runs: &mut Vec<RunState>, entry: &Entry, run: Run)
+pub(crate) fn take_in_run(runs: &mut Vec<RunState>, entry: &Entry, run: Run)
     ensures as_many { length runs.new.items ≡ length runs.old.items }
     ensures at { step.IsNextRun entry.now run.0 runs.old.items runs.new.items }
     ensures others { (b : ℕ) (d : RunState) → b ≢ run.0 → slice_index_or runs.new.items b d ≡ slice_index_or runs.old.items b d }
@@ -321,16 +268,6 @@ fn take_in_run(runs: &mut Vec<RunState>, entry: &Entry, run: Run)
             runs[run.0 as usize] = next_run(entry, run.0, state);
         }
     }
-}
-
-/// The same of all runs, for an entry that starts none: it changes its caller.
-#[inline(always)]
-pub(crate) fn take_in_caller(runs: &mut Vec<RunState>, entry: &Entry)
-    requires starts_none { started_run entry.now.op ≡ None }
-    ensures as_many { length runs.new.items ≡ length runs.old.items }
-    ensures each { (b : ℕ) → step.IsNextRun entry.now b runs.old.items runs.new.items }
-{
-    take_in_run(runs, entry, entry.caller);
 }
 
 /// Brings what is known of the runs up to one more entry: it changes its caller and the run that it starts.

@@ -7,10 +7,10 @@ ghost use Rattle.tc_rules.specs.Phases as phases;
 ghost use Rattle.tc_rules.specs.Local as verdicts;
 ghost use Rattle.tc_rules.specs.Faults as faults;
 ghost use Rattle.tc_rules.specs.Answers as answers;
+ghost use Rattle.tc_rules.specs.Waiting as waits;
 ghost use Rattle.tc_rules.specs.Legal as legal;
 
-mod parked;
-
+use crate::awaited::Awaited;
 use crate::state::CaseState;
 use std::alloc::Global;
 use std::marker::Model;
@@ -41,11 +41,7 @@ impl Model for Table {
 pub fn copied_entries(alloc: Global, history: &[Entry]) -> Result<Vec<Entry>, NoMemory>
     ensures { IfOk result (λ v. v.items ≡ history.now) }
 {
-    let mut all = Vec::with_capacity(alloc, history.len())?;
-    for entry in history {
-        all.push(entry.copy())?;
-    }
-    Ok(all)
+    Ok(history.iter().map(|entry| entry.copy()).collect(alloc)?)
 }
 
 #[tactic(auto, using(crate::proofs::Lemmas::Standing::stands_legal))]
@@ -182,6 +178,13 @@ impl Table {
         ensures after { OnTrue result (legal.IsAllOver self.now.behaviours (past_of self.now)) }
     {
         self.state.is_over()
+    }
+
+    /// What a run waits for, if its last entry is a Wait or Wake replied Parked.
+    pub fn parked(&self, run: Run) -> Option<Awaited>
+        ensures { result ≡ waits.waiting (past_of self.now) run.0 }
+    {
+        self.state.parked(run)
     }
 
     /// How many components exist.

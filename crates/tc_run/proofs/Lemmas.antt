@@ -7,7 +7,7 @@ use Rattle.tc_script.{specs.Prelude.{Acts, MakesItsCalls}, proofs.Lemmas.{Report
 use Rattle.tc_reader.specs.Prelude.{IsCase}
 use Rattle.tc_book.specs.Prelude.{PassState}
 use Rattle.tc_exec.{specs.{declared.{job.Back.Back, test_case.Case.Case}, Prelude.{IsCaseReport, IsHandedBack, IsMadeOf}}, proofs.Lemmas.Logs.logs_by}
-use Rattle.tc_report.specs.{declared.{fault.OutFault.OutFault, live_form.LiveForm.LiveForm, results.{CampaignEnd.CampaignEnd, Finished.Finished, Results.Results}, stopwatch.Times.Times}, Prelude.{LeavesPrefix, IsMet, IsToldBy}}
+use Rattle.tc_report.specs.{declared.{fault.OutFault.OutFault, live.LiveForm.LiveForm, results.{CampaignEnd.CampaignEnd, Finished.Finished, Results.Results}, stopwatch.Times.Times}, Prelude.{LeavesPrefix, IsMet, IsToldBy}}
 use Rattle.tc_campaign.specs.Prelude.{AreBack, Outline, HasNames, outline_of, AreFinished, IsCalled, IsEnding, IsOfCase, IsRefusal as RefusesCase, IsRunTo}
 use Rattle.tc_campaign.specs.Inside.{IsReported}
 use Rattle.tc_command.specs.declared.task.RunOptions.{RunOptions}

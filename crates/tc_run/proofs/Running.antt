@@ -4,7 +4,7 @@ use Rattle.tc_rules.specs.{Prelude.Verdict, declared.refusal.CaseError.CaseError
 use Rattle.tc_stream.specs.Prelude.{AppendsPrefix}
 use Rattle.tc_book.specs.Prelude.{PassState}
 use Rattle.tc_exec.specs.declared.{job.Back.Back, test_case.Case.Case}
-use Rattle.tc_report.{specs.{Inside.form_text, declared.{fault.OutFault.OutFault, live.LiveWriter.LiveWriter, live_form.LiveForm.LiveForm, results.{CampaignEnd.CampaignEnd, Finished.Finished, Results.Results}, stopwatch.Times.Times}, Prelude.{abort_text, no_times, closing_text, opening_text, LeavesPrefix, IsToldBy, ending_status, results_status, tally_of_cases}}, proofs.Lemmas.{Pieces.{IsAt, Takes, all_at, all_written, begun, case_left, closing_left, ended_at, opening_left, status_at}, Telling.nothing_of}}
+use Rattle.tc_report.{specs.{Inside.form_text, declared.{fault.OutFault.OutFault, live.{LiveForm.LiveForm, LiveWriter.LiveWriter}, results.{CampaignEnd.CampaignEnd, Finished.Finished, Results.Results}, stopwatch.Times.Times}, Prelude.{abort_text, no_times, closing_text, opening_text, LeavesPrefix, IsToldBy, ending_status, results_status, tally_of_cases}}, proofs.Lemmas.{Pieces.{IsAt, Takes, all_at, all_written, begun, case_left, closing_left, ended_at, opening_left, status_at}, Telling.nothing_of}}
 use Rattle.tc_answer.{specs.{Prelude.{case_name, Streams, IsTold}, declared.{fault.RunFault.RunFault, outcome.Outcome.Outcome}}, proofs.Lemmas.Giving.keeps_same}
 use Rattle.tc_campaign.{specs.{Prelude.{AreBack, outline_of, AreFinished, IsCalled, IsRunTo}, Inside.IsUnrun}, proofs.Lemmas.Keeping.{none_finished, unrun_run}}
 use Rattle.tc_command.specs.declared.task.{Form.Form, RunOptions.RunOptions}

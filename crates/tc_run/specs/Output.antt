@@ -1,6 +1,6 @@
 -- What `run` writes.
 use Rattle.std.specs.Prelude.{ℕ, ◌≡◌, Bool, true, false, List, Option, Some, None, length, map}
-use Rattle.tc_report.specs.{declared.{fault.OutFault.OutFault, live_form.LiveForm.LiveForm, results.Results.Results, stopwatch.Times.Times}, Prelude.{blocks_text, csv_of, report_text, LeavesPrefix, junit_of, no_times, case_summary, results_summaries}}
+use Rattle.tc_report.specs.{declared.{fault.OutFault.OutFault, live.LiveForm.LiveForm, results.Results.Results, stopwatch.Times.Times}, Prelude.{blocks_text, csv_of, report_text, LeavesPrefix, junit_of, no_times, case_summary, results_summaries}}
 use Rattle.tc_blocks.specs.declared.header.Kind.{Kind}
 use Rattle.tc_command.specs.declared.{command.TheConstants.VERSION, task.Form.Form}
 use Rattle.tc_answer.specs.declared.fault.RunFault.{RunFault}

@@ -2,7 +2,7 @@
 use Rattle.std.specs.{Prelude.{ℕ, ◌≡◌, Bool, List, Option, Some, None, Result, map, ◌⊎◌, length}, Io.KnownBytes.Appends, Result.{result_and, result_map_both}}
 use Rattle.tc_stream.specs.Prelude.{AppendsPrefix}
 use Rattle.tc_campaign.specs.Prelude.{Outline, AreFinished, IsRunTo}
-use Rattle.tc_report.specs.{declared.{fault.OutFault.OutFault, live_form.LiveForm.LiveForm, results.{Finished.Finished, Results.Results}, stopwatch.Times.Times}, Prelude.{abort_text, LeavesPrefix, IsToldBy, results_status}}
+use Rattle.tc_report.specs.{declared.{fault.OutFault.OutFault, live.LiveForm.LiveForm, results.{Finished.Finished, Results.Results}, stopwatch.Times.Times}, Prelude.{abort_text, LeavesPrefix, IsToldBy, results_status}}
 use Rattle.tc_command.specs.declared.task.RunOptions.{RunOptions}
 use Rattle.tc_answer.specs.{declared.{fault.RunFault.RunFault, outcome.Outcome.Outcome}, Prelude.{Streams, IsTold, run_fault_line, IsPrintedRefusal, CaseView, scripts_of}}
 use Rattle.tc_entry.specs.declared.limits.TheConstants.{BEHAVIOURS}

@@ -1,6 +1,5 @@
 //! The line for a campaign that was aborted.
-ghost use Rattle.std.specs.Prelude.{◌≡◌, ◌++◌, IfOk, OnErr, OnOk, Result};
-ghost use Rattle.std.specs.Io.{StartsWith};
+ghost use Rattle.std.specs.{Prelude.{◌≡◌, ◌++◌, IfOk, OnErr, OnOk, Result}, Io.StartsWith};
 ghost use Rattle.tc_report.specs.Prelude.{abort_text, aborted_text, is_aborted};
 ghost use Rattle.tc_answer.specs.Prelude.{IsTold, said};
 ghost use Rattle.tc_run.specs.Inside.{first_fault};

@@ -1,6 +1,5 @@
 //! The results of a campaign, as the program writes them.
-ghost use Rattle.std.specs.Prelude.{◌≡◌, [], IfOk, IfErr, OnOk};
-ghost use Rattle.std.specs.Io.KnownBytes.{Appends};
+ghost use Rattle.std.specs.{Prelude.{◌≡◌, [], IfOk, IfErr, OnOk}, Io.KnownBytes.Appends};
 ghost use Rattle.tc_report.specs.Prelude.{results_status, LeavesPrefix, no_times};
 ghost use Rattle.tc_run.specs.Output.{LeavesUnwritten, of_output, live_form as spec_form, results_in_form};
 

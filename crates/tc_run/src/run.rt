@@ -1,6 +1,5 @@
 //! A run of a campaign: who is given its test cases, and what is written and printed of it.
-ghost use Rattle.std.specs.Prelude.{true, false, ◌≡◌, ◌≤◌, ◌||◌, [], All, length, Err, IfOk, IfErr, IfNone, IfSome, List, Ok, None, Option, Some, map, ℕ};
-ghost use Rattle.std.specs.{Io.KnownBytes.Appends, Vec.vec_capacity, Vec.vec_len};
+ghost use Rattle.std.specs.{Prelude.{true, false, ◌≡◌, ◌≤◌, ◌||◌, [], All, length, Err, IfOk, IfErr, IfNone, IfSome, List, Ok, None, Option, Some, map, ℕ}, Io.KnownBytes.Appends, Vec.vec_capacity, Vec.vec_len};
 ghost use Rattle.tc_verdict.specs.declared.verdict.Verdict.TheVariants.{None as NoVerdict};
 ghost use Rattle.tc_answer.specs.Prelude.{case_name, held_streams};
 ghost use Rattle.tc_campaign.specs.Prelude.{AreBack, HasNames, outline_of, IsCalled, IsRunTo};
@@ -110,13 +109,8 @@ where
 {
     let rt = watch.clock;
     if !options.progress {
-        let (ending, times) = run_timed(
-            rt,
-            alloc,
-            cases,
-            options,
-            &mut Timed::new(watch, observer),
-        );
+        let mut timed = Timed::new(watch, observer);
+        let (ending, times) = run_timed(rt, alloc, cases, options, &mut timed);
         return (ending, Ok(()), times);
     }
     let mut failed = Vec::new(alloc);
@@ -124,21 +118,9 @@ where
         names,
         only: options.failures,
     };
-    run_with(
-        rt,
-        alloc,
-        cases,
-        options,
-        &mut Progress::new(
-            alloc,
-            watch,
-            shown,
-            options.stop_on,
-            observer,
-            errors,
-            &mut failed,
-        ),
-    )
+    let stop_on = options.stop_on;
+    let mut progress = Progress::new(alloc, watch, shown, stop_on, observer, errors, &mut failed);
+    run_with(rt, alloc, cases, options, &mut progress)
 }
 
 // Runs the test cases, and keeps and reports all of them: there is room.

@@ -38,12 +38,21 @@ fn make_calls<R: Wait>(
     requires { length pass.old.args ≡ script.now.parameters }
     ensures { HasRun script.now.steps pass.old pass.new (ending_of result) }
 {
-    let mut made = Vec::new(alloc);
+    if pass.is_ended() {
+        return Ok(());
+    }
+    if script.steps().is_empty() {
+        return Ok(());
+    }
+    let mut bound = Vec::new(alloc);
+    if bound.extend_from_slice(pass.args()).is_err() {
+        return Err(NoMemory);
+    }
     for step in script.steps() {
         if pass.is_ended() {
             break;
         }
-        call(rt, pass, &mut made, step)?;
+        call(rt, pass, &mut bound, step)?;
     }
     Ok(())
 }
@@ -56,6 +65,7 @@ impl Behaviour for Script {
         if pass.args().len() != self.parameters() {
             return Back::after(pass, Ok(()));
         }
+        pass.make_room(self.steps().len());
         let made = make_calls(rt, alloc, &self, &mut pass);
         Back::after(pass, made.map_err(|_| Halt::NoMemory))
     }

@@ -1,15 +1,14 @@
 //! The call of one step.
-ghost use Rattle.std.specs.Prelude.{◌≡◌, ◌++◌, All, false, length, is_ok, not};
+ghost use Rattle.std.specs.Prelude.{◌≡◌, false, is_ok, not};
 ghost use Rattle.tc_rules.specs.Prelude.{Op, Reply};
 ghost use Rattle.tc_book.specs.Prelude.{has_ended, IsCall, IsWait};
-ghost use Rattle.tc_step.specs.Prelude.{question, IsBound, places};
+ghost use Rattle.tc_step.specs.Prelude.{question};
 ghost use Rattle.tc_script.specs.Inside.{is_refused, IsCarriedOut};
 
-use crate::bound::{arguments, component, group, target};
 use std::sync::Wait;
 use tc_book::{Halt, Pass};
 use tc_entry::{Comp, Name, Target};
-use tc_step::{Status, Step};
+use tc_step::{Status, Step, arguments, component, group, target};
 use tc_verdict::NoMemory;
 
 /// Whether a call was carried out; it was, too, if it was replied Ended or by a dynamic error.
@@ -37,19 +36,19 @@ fn make<R: Wait>(rt: &R, pass: &mut Pass, alive: bool, name: &Option<Name>) -> R
 fn create<R: Wait>(
     rt: &R,
     pass: &mut Pass,
-    made: &mut Vec<Comp>,
+    bound: &mut Vec<Comp>,
     alive: bool,
     name: &Option<Name>,
 ) -> Result<(), NoMemory>
     requires { has_ended pass.old ≡ false }
-    ensures { IsCarriedOut (Step.Create alive name.now) pass.old made.old.items pass.new made.new.items result }
+    ensures { IsCarriedOut (Step.Create alive name.now) bound.old.items pass.old bound.new.items pass.new result }
 {
-    if made.reserve(1).is_err() {
+    if bound.reserve(1).is_err() {
         return Err(NoMemory);
     }
     match make(rt, pass, alive, name) {
         Ok(comp) => {
-            made.push_reserved(comp);
+            bound.push_reserved(comp);
             Ok(())
         }
         Err(halt) => carried_out::<Comp>(Err(halt)),
@@ -80,43 +79,31 @@ fn wait<R: Wait>(rt: &R, pass: &mut Pass, killed: bool, target: Target) -> Resul
 }
 
 #[tactic(auto, using(crate::proofs::Carrying::plain_step, crate::proofs::Carrying::wait_step))]
-/// Makes the call of a step. It returns whether the call was carried out.
+/// Makes the call of a step where these components are bound. It returns whether the call was carried out.
 pub(crate) fn call<R: Wait>(
     rt: &R,
     pass: &mut Pass,
-    made: &mut Vec<Comp>,
+    bound: &mut Vec<Comp>,
     step: &Step,
 ) -> Result<(), NoMemory>
-    requires not_ended { has_ended pass.old ≡ false }
-    requires bound { All (IsBound (length (pass.old.args ++ made.old.items))) (places step.now) }
-    ensures { IsCarriedOut step.now pass.old made.old.items pass.new made.new.items result }
+    requires { has_ended pass.old ≡ false }
+    ensures { IsCarriedOut step.now bound.old.items pass.old bound.new.items pass.new result }
 {
+    let me = pass.me();
     match step {
-        Step::Create { alive, name } => create(rt, pass, made, *alive, name),
+        Step::Create { alive, name } => create(rt, pass, bound, *alive, name),
         Step::Start { on, run, args } => {
-            let comp = component(pass, made, *on);
-            let args = arguments(pass, made, args);
+            let comp = component(me, bound, *on);
+            let args = arguments(me, bound, args);
             carried_out(pass.start(rt, comp, *run, &args))
         }
-        Step::Stop(named) => {
-            let group = group(pass, made, *named);
-            carried_out(pass.stop(rt, group))
-        }
-        Step::Kill(named) => {
-            let group = group(pass, made, *named);
-            carried_out(pass.kill(rt, group))
-        }
-        Step::Ask(status, named) => {
-            let target = target(pass, made, *named);
-            carried_out(ask(rt, pass, *status, target))
-        }
+        Step::Stop(named) => carried_out(pass.stop(rt, group(me, bound, *named))),
+        Step::Kill(named) => carried_out(pass.kill(rt, group(me, bound, *named))),
+        Step::Ask(status, named) => carried_out(ask(rt, pass, *status, target(me, bound, *named))),
         Step::Wait {
             killed,
             target: named,
-        } => {
-            let target = target(pass, made, *named);
-            carried_out(wait(rt, pass, *killed, target))
-        }
+        } => carried_out(wait(rt, pass, *killed, target(me, bound, *named))),
         Step::StopCase => carried_out(pass.stop_case(rt)),
         Step::SetVerdict(value) => carried_out(pass.set_verdict(*value)),
         Step::GetVerdict => carried_out(pass.get_verdict()),

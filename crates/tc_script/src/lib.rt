@@ -2,7 +2,6 @@
 #![tactic(auto)]
 
 mod behaviour;
-mod bound;
 mod call;
 mod job;
 pub mod laws;

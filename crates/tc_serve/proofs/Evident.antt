@@ -1,6 +1,6 @@
 -- What is written is evidence of what was asked for.
 use Rattle.std.{proofs.{Common.{ℕ, ◌≡◌, ◌≢◌, ◌∙◌, ◌==◌, ◌||◌, ◌&&◌, ◌+◌, ◌<◌, ◌≤◌, ◌^◌, inr, not, nat_lt, if◌then◌else◌, zero, suc, Bool, true, false, IsTrue, Option, Some, None, List, [], ◌∷◌, ◌++◌, length, reverse, refl, ap, sym, subst, append_assoc, arith, inl, is_some}, lemmas.{Bool.Decides.nat_tests, List.{append-nil, reverse-append, reverse-reverse}}}, specs.{List.{All, AllByRecursion, flat_map, list_all, cons_option, filter_map}, Result.result_unwrap_or, Option.option_map_or}}
-use Rattle.tc_rules.{specs.{Prelude.{Run, IsBehaviours, IsName, Comp, Entry, Op, Reply, answer, local_reply, plain_answer, comp_of, created, overall, awaited, holds, parks, waiting, is_parked, Fault, is_wake, IsLegal, wake_op}, declared.awaited.Awaited.Awaited}, proofs.Lemmas.Sound.{next, plain_if}}
+use Rattle.tc_rules.{specs.{Prelude.{Run, IsBehaviours, IsName, Comp, Entry, Op, Reply, answer, local_reply, plain_answer, comp_of, created, overall, awaited, holds, parks, waiting, is_parked, Fault, is_wake, IsLegal, wake_op}, declared.awaited.Awaited.Awaited}, proofs.Lemmas.{Deciding.{and_left, and_right}, Sound.{next, plain_if}, Stuck.and_split}}
 use Rattle.tc_text.specs.Prelude.{is_plain, IsOp, IsReply, IsTarget}
 use Rattle.tc_blocks.{specs.{Prelude.{end_text, AreEntries, IsEntry, with_lf, header_text, entries_of, is_about, is_met, IsSentence, AreBlocks, AreEvidence, AreLines, IsHeader, IsLine, block_lines, text_of_block, entry_in}, declared.{header.Kind.Kind, line.Line.Line}}, proofs.Lemmas.{Meeting.met_last, WrittenEvidence.written_evidence}}
 use Rattle.tc_serve.{specs.{Inside.{after_call, with_line, called}, Laws.{block_of, blocks_of, AllServed, IsSound, asked_by, asked_in, asked_of}, Protocol.{AreServed, Played, Sent, ServiceState, finished_state, moved, played_past, why_text, woken, woken_from, Came, done_of, sleep_of, was_done, was_lost, was_refused, with_current}, Serve.{block, case_header, stand_text}, declared.order.{Refusal.Refusal, Order.Order}}, proofs.Changes.{IsNote, all_served, closing, may_add, lines_text, Changed, changes, done_by, may_ask}}
@@ -118,23 +118,10 @@ evident p ls is fit = record { name = is.name; behaviours = is.behaviours; entri
 below : (a b : ℕ) → nat_lt a b ≡ true → a < b
 below a b test = grind (arith, nat_tests)
 
-both : (a b : Bool) → (a && not b) ≡ true → (a ≡ true) × (b ≡ false)
-both true true e = absurd cc
-both true false e = (refl, refl)
-both false b e = absurd cc
-
-first_of : (a b : Bool) → (a && b) ≡ true → a ≡ true
-first_of true b e = refl
-first_of false b e = absurd cc
-
-second_of : (a b : Bool) → (a && b) ≡ true → b ≡ true
-second_of true b e = e
-second_of false b e = absurd cc
-
 all_plain : (bs : List ℕ) → list_all is_plain bs ≡ true → All (λ b. IsTrue (is_plain b)) bs
 all_plain [] all k d within = absurd (omega (arith, within))
-all_plain (b ∷ bs) all zero d within = first_of (is_plain b) (list_all is_plain bs) all
-all_plain (b ∷ bs) all (suc k) d within = all_plain bs (second_of (is_plain b) (list_all is_plain bs) all) k d (omega (arith, within))
+all_plain (b ∷ bs) all zero d within = and_left (is_plain b) (list_all is_plain bs) all
+all_plain (b ∷ bs) all (suc k) d within = all_plain bs (and_right (is_plain b) (list_all is_plain bs) all) k d (omega (arith, within))
 
 refusal_plain : (why : Refusal) → IsSentence (why_text why)
 refusal_plain Refusal.Unended = record { some = omega arith; short = omega arith; plain = all_plain (why_text Refusal.Unended) refl }
@@ -142,7 +129,7 @@ refusal_plain why = record { some = omega arith; short = omega arith; plain = al
 
 note_fits : (p : Played) (l : Line) → may_add p l ≡ true → IsNote l → IsEvident p → IsEvident (with_line p l)
 note_fits p (Line.Named run name) may fits is =
-    let two = both (nat_lt run.0 p.behaviours) (is_met run.0 p.lines) may in
+    let two = and_split (nat_lt run.0 p.behaviours) (is_met run.0 p.lines) may in
     evident p (Line.Named run name ∷ p.lines) is
     (fit_more p.behaviours p.lines (Line.Named run name) (fit_of p is) is.entries
     (record { evidence = refl; few = below run.0 p.behaviours two.0; name_is = fits; first = sym (met_reverse run.0 p.lines) ∙ two.1 }))

@@ -1,7 +1,8 @@
 -- Lines that come in pieces, and what is read and written of them, turn by turn.
-use Rattle.std.{proofs.{Common.{ℕ, ◌≡◌, ◌≢◌, ◌∙◌, ◌==◌, ◌&&◌, ◌||◌, ◌+◌, ◌-◌, ◌<◌, ◌≤◌, inl, inr, if◌then◌else◌, Bool, true, false, is_some, Option, Some, None, Result, Ok, Err, MatchResult, List, [], ◌∷◌, ◌++◌, codes, zero, suc, length, take, get_or, refl, ap, sym, subst, append_assoc, arith, ◌^◌, ◌↔◌, ◌⊎◌, IfErr, zero-add, suc-add}, lemmas.{List.{append-nil, length-append, take_more}, Grind.common_steps}}, specs.{Fmt.decimal, Io.KnownBytes.{IsAtEnd, Appends, Consumes, Keeps}, List.list_all, Result.result_unwrap_or}}
+use Rattle.std.{proofs.{Common.{ℕ, ◌≡◌, ◌≢◌, ◌∙◌, ◌==◌, ◌||◌, ◌+◌, ◌-◌, ◌<◌, ◌≤◌, inl, inr, if◌then◌else◌, Bool, true, false, is_some, Option, Some, None, Result, Ok, Err, MatchResult, List, [], ◌∷◌, ◌++◌, codes, zero, suc, length, take, get_or, refl, ap, sym, subst, append_assoc, arith, ◌^◌, ◌↔◌, ◌⊎◌, IfErr, zero-add, suc-add}, lemmas.{List.{append-nil, length-append, take_more}, Grind.common_steps}}, specs.{Fmt.decimal, Io.KnownBytes.{IsAtEnd, Appends, Consumes, Keeps}, List.list_all, Result.result_unwrap_or}}
 use Rattle.tc_serve.{specs.{Inside.{Closes, Counts, Fails, Feeds, IsAtLine, IsBadLine, IsEnd, IsFed, Serves, StandsAs, StopsIn, TakesPiece, TellsRun, Tries, TriesLine, is_refused, Hears, IsAt, IsOwn, IsTurn, IsTaken, end_told, IsNobodys}, Protocol.{AllEnded, Came, Comes, IsOf, IsOrderOf, NoLf, Refuses, Sent, ServiceState, after_order, finished_state, seen, was_done, was_lost, was_refused, why_text}, Serve.{HasEnded, IsWhy, served, stopped, bytes_of, lines_messages, lost_text, refused_line_text, worst_case, Devices, IsServiceEnd, devices}, declared.{service.{ServeFault.ServeFault, Served.Served, Ending.Ending}, order.{Order.Order, TheConstants.LINE_BYTES, Refusal.Refusal}, server.Server.Server, serving.Serving.Serving}}, proofs.Changes.appended}
 use Rattle.tc_stream.specs.Prelude.{AppendsPrefix}
+use Rattle.tc_rules.proofs.Lemmas.Deciding.{and_left, and_right}
 
 -- ---- lines
 
@@ -169,18 +170,10 @@ fed_piece bytes piece v w before out before' told fed plain kept server lines re
 -- each line has its LF
 long_lines : (lines : List Sent) → AllEnded lines → length lines ≤ length (bytes_of lines)
 long_lines [] all = omega arith
-long_lines (l ∷ before) all = by_end l.ended refl (long_lines before (second l.ended _ all))
+long_lines (l ∷ before) all = by_end l.ended refl (long_lines before (and_right l.ended _ all))
   where
-    second : (a b : Bool) → (a && b) ≡ true → b ≡ true
-    second true b e = e
-    second false b e = absurd cc
-
-    first : (a b : Bool) → (a && b) ≡ true → a ≡ true
-    first true b e = refl
-    first false b e = absurd cc
-
     by_end : (t : Bool) → l.ended ≡ t → length before ≤ length (bytes_of before) → length (l ∷ before) ≤ length (bytes_of (l ∷ before))
-    by_end false is so = absurd (let e : false ≡ true = sym is ∙ first l.ended (list_all (λ x. x.ended) before) all in cc)
+    by_end false is so = absurd (let e : false ≡ true = sym is ∙ and_left l.ended (list_all (λ x. x.ended) before) all in cc)
     by_end true is so = subst (λ (t : Bool). length (l ∷ before) ≤ length (bytes_of before ++ (l.bytes ++ (if t then 10 ∷ [] else [])))) (sym is)
         (omega (arith, so, length-append (bytes_of before) (l.bytes ++ 10 ∷ []), length-append l.bytes (10 ∷ [])))
 

@@ -1,6 +1,6 @@
 -- No run that can continue is left asleep: one pass over the runs, in the order of their numbers, wakes all that can.
 use Rattle.std.{proofs.{Common.{ℕ, ◌≡◌, ◌≢◌, ◌<◌, ◌≤◌, ◌==◌, ◌&&◌, ◌||◌, ◌⊎◌, inl, inr, not, if◌then◌else◌, zero, suc, Bool, true, false, Option, Some, None, List, [], ◌∷◌, ◌++◌, drop, refl, ap, sym, subst, ◌∙◌, arith}, lemmas.Bool.Decides.nat_tests}, specs.List.{AllByRecursion, list_any, list_all}}
-use Rattle.tc_rules.{specs.{Prelude.{Run, Comp, Entry, Op, Target, Phase, Fault, Reply, add_new, comp_of, comps, created, exists, is_alive_type, phase, phase_if_not_killed, last_run, was_halted, was_killed, done, is_done, is_killed, is_running, killed, holds, is_still, is_stuck, parks, waiting, waits_in_vain, all_exist, asks_many, fault, target_names, answer, answer_unless, is_active, is_active_on, is_run_of, local_reply, plain_answer, is_quiet, keeps_phases, IsLegal, wake_op}, declared.awaited.Awaited.Awaited}, proofs.Lemmas.{Deciding.{and_left, and_no, and_right, equal_if, first_alone, self_equal}, Going.last_on_it, Over.{on_existing, stays}, Quiet.quiet_wakes_nobody, Sound.plain_if}}
+use Rattle.tc_rules.{specs.{Prelude.{Run, Comp, Entry, Op, Target, Phase, Fault, Reply, add_new, comp_of, comps, created, exists, phase, done, is_done, is_killed, is_running, killed, holds, is_still, is_stuck, parks, waiting, waits_in_vain, all_exist, fault, answer, answer_unless, is_active, is_active_on, local_reply, plain_answer, is_quiet, keeps_phases, IsLegal, wake_op}, declared.awaited.Awaited.Awaited}, proofs.Lemmas.{Deciding.{equal_if, self_equal}, Going.last_on_it, Kept.list_all-same, Quiet.{Quiet, no_new_fault, quiet_wakes_nobody, same_active, same_phase}, Stuck.phase_running, Sound.plain_if}}
 use Rattle.tc_blocks.specs.{declared.line.Line.Line, Prelude.{entries_of, entry_in}}
 use Rattle.tc_serve.{specs.{Inside.{after_call, wakes_nobody, with_line, called, IsSettled}, Laws.{AllServed, IsSound}, Protocol.{Played, moved, played_past, woken, woken_from}}, proofs.{Evident.{all_legal, move_sound, no_entry, note_sound}, Changes.all_served}}
 
@@ -13,44 +13,19 @@ none_made : (op : Op) → created op Reply.Ended ≡ None
 none_made (Op.Create alive name) = refl
 none_made _ = refl
 
-none_of : (n : ℕ) (past : List Entry) (c : ℕ) → 0 < n → IsLegal n past → exists past c ≡ false → last_run past c ≡ None
-none_of n past c some legal gone = by_last (last_run past c) refl
-  where
-    by_last : (o : Option Run) → last_run past c ≡ o → o ≡ None
-    by_last None is = refl
-    by_last (Some a) is =
-        let there : exists past c ≡ true = on_existing n past a.0 (record { 0 = c }) legal (last_on_it n past c a some legal is).0 in
-        absurd (let e : false ≡ true = sym gone ∙ there in cc)
-
-same_phase : (n : ℕ) (past : List Entry) (r : Run) (op : Op) (c : ℕ) → 0 < n → IsLegal n past → phase (ended_call r op ∷ past) c ≡ phase past c
-unfolding phase
-same_phase n past r op c some legal = by_test (exists past c) refl
-  where
-    by_test : (t : Bool) → exists past c ≡ t →
-        (if was_killed (ended_call r op ∷ past) c then Phase.Killed else phase_if_not_killed (last_run past c) (was_halted past c) (is_alive_type (ended_call r op ∷ past) c))
-        ≡ (if was_killed past c then Phase.Killed else phase_if_not_killed (last_run past c) (was_halted past c) (is_alive_type past c))
-    by_test true x =
-        let k : was_killed (ended_call r op ∷ past) c ≡ was_killed past c = rw (and_no (exists past c)) refl in
-        let t : is_alive_type (ended_call r op ∷ past) c ≡ is_alive_type past c = rw x refl in
-        rw (k, t) refl
-    by_test false x =
-        let k : was_killed (ended_call r op ∷ past) c ≡ was_killed past c = rw (and_no (exists past c)) refl in
-        rw (k, none_of n past c some legal x) refl
+quiet : (r : Run) (op : Op) → Quiet (ended_call r op)
+quiet r op = record { ends = refl; kill = λ c. refl; halt = λ own c. refl; start = λ c. refl; run = λ b. refl; park = refl }
 
 any_ext : (f g : ℕ → Bool) (cs : List ℕ) → ((c : ℕ) → g c ≡ f c) → list_any g cs ≡ list_any f cs
 any_ext f g [] same = refl
 any_ext f g (c ∷ cs) same = rw (same c) (ap (λ (t : Bool). f c || t) (any_ext f g cs same))
-
-all_ext : (f g : ℕ → Bool) (cs : List ℕ) → ((c : ℕ) → g c ≡ f c) → list_all g cs ≡ list_all f cs
-all_ext f g [] same = refl
-all_ext f g (c ∷ cs) same = rw (same c) (ap (λ (t : Bool). f c && t) (all_ext f g cs same))
 
 module _ (n : ℕ) (past : List Entry) (r : Run) (op : Op) (some : 0 < n) (legal : IsLegal n past) where
   same_comps : comps (ended_call r op ∷ past) ≡ comps past
   same_comps = ap (λ (o : Option Comp). add_new o (comps past)) (none_made op)
 
   same : (c : ℕ) → phase (ended_call r op ∷ past) c ≡ phase past c
-  same c = same_phase n past r op c some legal
+  same c = same_phase n past (ended_call r op) c legal (quiet r op)
 
   same_done : (t : Target) → done (ended_call r op ∷ past) t ≡ done past t
   unfolding done
@@ -58,7 +33,7 @@ module _ (n : ℕ) (past : List Entry) (r : Run) (op : Op) (some : 0 < n) (legal
   same_done Target.Any = ap (λ (cs : List ℕ). list_any (λ c. is_done (phase (ended_call r op ∷ past) c)) (drop 1 cs)) same_comps
       ∙ any_ext (λ c. is_done (phase past c)) (λ c. is_done (phase (ended_call r op ∷ past) c)) (drop 1 (comps past)) (λ c. ap is_done (same c))
   same_done Target.All = ap (λ (cs : List ℕ). list_all (λ c. not (is_running (phase (ended_call r op ∷ past) c))) (drop 1 cs)) same_comps
-      ∙ all_ext (λ c. not (is_running (phase past c))) (λ c. not (is_running (phase (ended_call r op ∷ past) c))) (drop 1 (comps past)) (λ c. ap (λ (p : Phase). not (is_running p)) (same c))
+      ∙ list_all-same (λ c. not (is_running (phase (ended_call r op ∷ past) c))) (λ c. not (is_running (phase past c))) (drop 1 (comps past)) (λ c. ap (λ (p : Phase). not (is_running p)) (same c))
 
   same_killed : (t : Target) → killed (ended_call r op ∷ past) t ≡ killed past t
   unfolding killed
@@ -66,7 +41,7 @@ module _ (n : ℕ) (past : List Entry) (r : Run) (op : Op) (some : 0 < n) (legal
   same_killed Target.Any = ap (λ (cs : List ℕ). list_any (λ c. is_killed (phase (ended_call r op ∷ past) c)) (drop 1 cs)) same_comps
       ∙ any_ext (λ c. is_killed (phase past c)) (λ c. is_killed (phase (ended_call r op ∷ past) c)) (drop 1 (comps past)) (λ c. ap is_killed (same c))
   same_killed Target.All = ap (λ (cs : List ℕ). list_all (λ c. is_killed (phase (ended_call r op ∷ past) c)) (drop 1 cs)) same_comps
-      ∙ all_ext (λ c. is_killed (phase past c)) (λ c. is_killed (phase (ended_call r op ∷ past) c)) (drop 1 (comps past)) (λ c. ap is_killed (same c))
+      ∙ list_all-same (λ c. is_killed (phase (ended_call r op ∷ past) c)) (λ c. is_killed (phase past c)) (drop 1 (comps past)) (λ c. ap is_killed (same c))
 
   same_holds : (b : Awaited) → holds (ended_call r op ∷ past) b ≡ holds past b
   unfolding holds
@@ -80,24 +55,10 @@ module _ (n : ℕ) (past : List Entry) (r : Run) (op : Op) (some : 0 < n) (legal
   same_vain None = refl
   same_vain (Some b) = ap not (same_holds b)
 
-  running_last : (c : ℕ) (run : Run) → phase past c ≡ Phase.Running run → last_run past c ≡ Some run
-  unfolding phase
-  running_last c run is = by_killed (was_killed past c) is
-    where
-      by_last : (o : Option Run) (h t : Bool) → phase_if_not_killed o h t ≡ Phase.Running run → o ≡ Some run
-      by_last None h t e = absurd cc
-      by_last (Some x) true true e = absurd cc
-      by_last (Some x) true false e = absurd cc
-      by_last (Some x) false t e = let s : x ≡ run = cc in ap (λ (y : Run). Some y) s
-
-      by_killed : (k : Bool) → (if k then Phase.Killed else phase_if_not_killed (last_run past c) (was_halted past c) (is_alive_type past c)) ≡ Phase.Running run → last_run past c ≡ Some run
-      by_killed true e = absurd cc
-      by_killed false e = by_last (last_run past c) (was_halted past c) (is_alive_type past c) e
-
   -- the run that a component runs is active
   running_active : (c : ℕ) (run : Run) → phase past c ≡ Phase.Running run → is_active past run.0 ≡ true
   unfolding is_active
-  running_active c run is = rw ((last_on_it n past c run some legal (running_last c run is)).0, is) (self_equal run.0)
+  running_active c run is = rw ((last_on_it n past c run some legal (phase_running past c run is)).0, is) (self_equal run.0)
 
   same_still : (c : ℕ) → is_active past r.0 ≡ false → is_still (ended_call r op ∷ past) (phase (ended_call r op ∷ past) c) ≡ is_still past (phase past c)
   same_still c idle = ap (is_still (ended_call r op ∷ past)) (same c) ∙ by_phase (phase past c) refl
@@ -119,15 +80,7 @@ module _ (n : ℕ) (past : List Entry) (r : Run) (op : Op) (some : 0 < n) (legal
   unfolding is_stuck
   same_stuck idle =
       ap (λ (cs : List ℕ). list_all (λ c. is_still (ended_call r op ∷ past) (phase (ended_call r op ∷ past) c)) cs) same_comps
-      ∙ all_ext (λ c. is_still past (phase past c)) (λ c. is_still (ended_call r op ∷ past) (phase (ended_call r op ∷ past) c)) (comps past) (λ c. same_still c idle)
-
-  same_on : (b : ℕ) (o : Option Comp) → is_active_on (ended_call r op ∷ past) b o ≡ is_active_on past b o
-  same_on b None = refl
-  same_on b (Some c) = ap (is_run_of b) (same c.0)
-
-  same_active : (b : ℕ) → is_active (ended_call r op ∷ past) b ≡ is_active past b
-  unfolding is_active
-  same_active b = ap (is_active_on (ended_call r op ∷ past) b) (first_alone (comp_of past b)) ∙ same_on b (comp_of past b)
+      ∙ list_all-same (λ c. is_still (ended_call r op ∷ past) (phase (ended_call r op ∷ past) c)) (λ c. is_still past (phase past c)) (comps past) (λ c. same_still c idle)
 
   same_fault : (b : ℕ) (w : Awaited) → fault n (ended_call r op ∷ past) b (wake_op w) ≡ fault n past b (wake_op w)
   unfolding fault all_exist exists
@@ -135,28 +88,9 @@ module _ (n : ℕ) (past : List Entry) (r : Run) (op : Op) (some : 0 < n) (legal
 
   same_answer : (b : ℕ) (w : Awaited) → is_active past r.0 ≡ false → answer n (ended_call r op ∷ past) b (wake_op w) ≡ answer n past b (wake_op w)
   unfolding answer
-  same_answer b w idle = rw (same_active b, same_fault b w, same_holds w, same_stuck idle) refl
+  same_answer b w idle = rw (same_active n past (ended_call r op) b legal (quiet r op), same_fault b w, same_holds w, same_stuck idle) refl
 
 -- ---- who waits for something may ask for it
-
-fault_cases : (x y : Bool) → (if not x then Some Fault.NoComponent else if y then Some Fault.NotMain else None) ≡ None → (x ≡ true) × (y ≡ false)
-fault_cases true true h = absurd cc
-fault_cases true false h = (refl, refl)
-fault_cases false y h = absurd cc
-
-still_exist : (past : List Entry) (e : Entry) (cs : List Comp) → all_exist past cs ≡ true → all_exist (e ∷ past) cs ≡ true
-unfolding all_exist
-still_exist past e [] h = refl
-still_exist past e (c ∷ cs) h =
-    rw (stays past e c.0 (and_left (exists past c.0) (list_all (λ d. exists past d.0) cs) h))
-    (still_exist past e cs (and_right (exists past c.0) (list_all (λ d. exists past d.0) cs) h))
-
-no_new_fault : (n : ℕ) (past : List Entry) (e : Entry) (b : ℕ) (a : Awaited) → fault n past b (wake_op a) ≡ None → fault n (e ∷ past) b (wake_op a) ≡ None
-unfolding fault
-no_new_fault n past e b a h =
-    let f = fault_cases (all_exist past (target_names a.target)) (asks_many (wake_op a) && not (b == 0)) h in
-    let x : all_exist (e ∷ past) (target_names a.target) ≡ true = still_exist past e (target_names a.target) f.0 in
-    rw (x, f.1) refl
 
 same_wake : (n : ℕ) (past : List Entry) (b : ℕ) (op : Op) (a : Awaited) → parks op Reply.Parked ≡ Some a → fault n past b op ≡ None → fault n past b (wake_op a) ≡ None
 unfolding fault
@@ -174,8 +108,8 @@ waits_rightly n (e ∷ past) b a legal is = by_test (e.caller.0 == b) refl is (�
   where
     by_test : (t : Bool) → (e.caller.0 == b) ≡ t → (if t then parks e.op e.reply else waiting past b) ≡ Some a → (waiting past b ≡ Some a → fault n past b (wake_op a) ≡ None) → fault n (e ∷ past) b (wake_op a) ≡ None
     by_test true own is before =
-        no_new_fault n past e b a (parked_op n past b e.op e.reply a (legal.0 ∙ ap (λ (x : ℕ). answer n past x e.op) (equal_if e.caller.0 b own)) is)
-    by_test false other is before = no_new_fault n past e b a (before is)
+        no_new_fault n past e b a.killed a.target (parked_op n past b e.op e.reply a (legal.0 ∙ ap (λ (x : ℕ). answer n past x e.op) (equal_if e.caller.0 b own)) is)
+    by_test false other is before = no_new_fault n past e b a.killed a.target (before is)
 
 -- ---- one wake
 

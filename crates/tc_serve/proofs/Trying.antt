@@ -1,8 +1,8 @@
 -- What a line tries, and the calls that it makes.
-use Rattle.std.{proofs.{Common.{ℕ, ◌≡◌, ◌∙◌, ◌<◌, ◌^◌, nat_lt, if◌then◌else◌, Bool, true, false, is_some, not, inl, inr, Option, Some, None, Result, Ok, Err, is_err, MatchResult, List, [], ◌∷◌, ◌++◌, refl, ap, sym, subst, ◌==◌, ◌||◌, append_assoc, arith}, lemmas.Bool.Decides.nat_tests}, specs.{Option.option_map_or, Result.{result_map_both, result_err}}}
-use Rattle.tc_rules.{specs.{Prelude.{Run, Verdict, worse, overall, Entry, Op, Reply, answer, IsReplyOf, Kept, StandsFor, TakesIn, keeps_phases, IsLegal, awaited, parks, waiting, is_parked, is_wake, started_run}, declared.awaited.Awaited.Awaited}, proofs.Lemmas.Standing.legal_for}
+use Rattle.std.{proofs.{Common.{ℕ, ◌≡◌, ◌≢◌, ◌∙◌, ◌<◌, ◌^◌, nat_lt, if◌then◌else◌, Bool, true, false, is_some, not, inl, inr, Option, Some, None, Result, Ok, Err, is_err, MatchResult, List, [], ◌∷◌, ◌++◌, refl, ap, sym, subst, ◌==◌, ◌||◌, append_assoc, arith}}, specs.{Option.option_map_or, Result.{result_map_both, result_err}}}
+use Rattle.tc_rules.{specs.{Prelude.{Comp, Run, Verdict, worse, overall, Entry, Op, Reply, answer, IsReplyOf, Kept, StandsFor, TakesIn, keeps_phases, IsLegal, is_wake, started_run}}, proofs.Lemmas.Standing.legal_for}
 use Rattle.tc_blocks.specs.{Prelude.{end_text, with_lf, header_text, entry_in, is_met, line_text, starts, AreMet}, declared.{line.Line.Line, met.MetRuns.MetRuns}}
-use Rattle.tc_serve.{specs.{Inside.{Changes, IsCurrent, IsOpen, Rests, StandsAs, TellsRun, Tries, TriesLine, with_line, AreAsleep, Becomes, BecomesAwake, Holds, IsAdded, IsCalled, IsKept, IsText, Moves, after_call, entry, wakes_nobody, called, counted, IsNobodys}, Protocol.{IsOf, IsOrder, IsOrderOf, IsWhyNothing, Played, Refuses, ServiceState, after_order, order_text, played_past, refused, why_text, with_added_line, with_current, with_open, made, moved, sleep_of, woken}, Serve.{case_header, stand_text}, declared.{open_case.OpenCase.OpenCase, order.{Order.Order, Refusal.Refusal}, server.Server.Server}}, proofs.{Changes.{appended, begins, ends, grows, line_more}, Settled.{new_settled, moved_settled, nobody_woken, noted_settled}, Sleeping.{asleep_more, asleep_on}}}
+use Rattle.tc_serve.{specs.{Inside.{Changes, IsCurrent, IsOpen, Rests, StandsAs, TellsRun, Tries, TriesLine, with_line, AreAwake, Becomes, Holds, IsCalled, IsKept, IsText, Moves, after_call, entry, wakes_nobody, called, counted, IsNobodys}, Protocol.{IsOf, IsOrder, IsOrderOf, IsWhyNothing, Played, Refuses, ServiceState, after_order, order_text, played_past, refused, why_text, with_added_line, with_current, with_open, made, moved, sleep_of, woken}, Serve.{case_header, stand_text}, declared.{open_case.OpenCase.OpenCase, order.{Order.Order, Refusal.Refusal}, server.Server.Server}}, proofs.{Changes.{appended, begins, ends, grows, line_more}, Settled.{new_settled, moved_settled, nobody_woken, noted_settled}}}
 
 abbrev pub server : Option OpenCase → Verdict → Server
 server c w = record { current = c; worst = w }
@@ -187,9 +187,9 @@ of_nobody line why v out none = λ s before stands. (λ run other low of_run. ab
 
 -- ---- a line that is no entry
 
-pub noted : (v w : OpenCase) (p : Played) (l : Line) (closed : List Played) (before out written : List ℕ) → Rests v p closed before out → entry_in l ≡ [] → w.state ≡ v.state → w.sleepers ≡ v.sleepers → ((ls : List Line) → AreMet v.met ls → AreMet w.met (l ∷ ls)) →
+pub noted : (v w : OpenCase) (p : Played) (l : Line) (closed : List Played) (before out written : List ℕ) → Rests v p closed before out → entry_in l ≡ [] → w.state ≡ v.state → w.waited ≡ v.waited → ((ls : List Line) → AreMet v.met ls → AreMet w.met (l ∷ ls)) →
     written ≡ out ++ with_lf (line_text l) → Rests w (with_line p l) closed before written
-noted v w p l closed before out written holds none state sleepers met appends =
+noted v w p l closed before out written holds none state waited met appends =
     let past : played_past p ≡ played_past (with_line p l) = ap (λ (es : List Entry). es ++ played_past p) (sym none) in
     let kept = holds.is.opened.kept in
     record {
@@ -201,7 +201,8 @@ noted v w p l closed before out written holds none state sleepers met appends =
             stands = subst (StandsFor w.state) past (subst (λ (k : Kept). StandsFor k (played_past p)) (sym state) kept.stands);
             met_are = met p.lines kept.met_are;
           };
-          asleep = subst (AreAsleep p.behaviours w.sleepers.items) past (rw sleepers holds.is.opened.asleep);
+          few = rw waited holds.is.opened.few;
+          awake = subst (AreAwake w.waited p.behaviours) past (rw waited holds.is.opened.awake);
         };
         settled = noted_settled p l none holds.is.settled;
       };
@@ -229,22 +230,17 @@ or_no : (t : Bool) → (t || false) ≡ t
 or_no true = refl
 or_no false = refl
 
--- what the caller waits for after its call
-pub parks_by : (op : Op) (r : Reply) → (if is_parked r then awaited op else None) ≡ parks op r
-parks_by op Reply.Parked = refl
-parks_by op _ = refl
-
 -- the line is whole with what follows its move
 pub line_whole : (text move outcome out written : List ℕ) → out ≡ text ++ move → written ≡ out ++ (outcome ++ 10 ∷ []) → written ≡ text ++ ((move ++ outcome) ++ 10 ∷ [])
 line_whole text move outcome out written begun is =
     is ∙ (ap (λ (l : List ℕ). l ++ (outcome ++ 10 ∷ [])) begun ∙ (append_assoc text move (outcome ++ 10 ∷ []) ∙ ap (λ (l : List ℕ). text ++ l) (sym (append_assoc move outcome (10 ∷ [])))))
 
 -- the line of a call is about the runs of two refused lines
-pub met_none : (met : MetRuns) (caller : Run) (op : Op) (reply : Reply) (ls : List Line) → None ≡ started_run op → AreMet met (Line.Refused caller [] ∷ ls) → AreMet met (Line.Entry (entry caller op reply) ∷ ls)
-met_none met caller op reply ls none are b d less = are b d less ∙ by_op op none
+pub met_other : (met : MetRuns) (caller : Run) (op : Op) (reply : Reply) (ls : List Line) → ((c : Comp) (run : Run) (args : List Comp) → op ≢ Op.Start c run args) → AreMet met (Line.Refused caller [] ∷ ls) → AreMet met (Line.Entry (entry caller op reply) ∷ ls)
+met_other met caller op reply ls other are b d less = are b d less ∙ by_op op other
   where
-    by_op : (o : Op) → None ≡ started_run o → ((caller.0 == b) || is_met b ls) ≡ (((caller.0 == b) || starts b o) || is_met b ls)
-    by_op (Op.Start c run args) e = absurd cc
+    by_op : (o : Op) → ((c : Comp) (run : Run) (args : List Comp) → o ≢ Op.Start c run args) → ((caller.0 == b) || is_met b ls) ≡ (((caller.0 == b) || starts b o) || is_met b ls)
+    by_op (Op.Start c run args) e = absurd (e c run args refl)
     by_op _ e = ap (λ (t : Bool). t || is_met b ls) (sym (or_no (caller.0 == b)))
 
 pub met_some : (met : MetRuns) (caller run : Run) (op : Op) (reply : Reply) (ls : List Line) → Some run ≡ started_run op → AreMet met (Line.Refused run [] ∷ Line.Refused caller [] ∷ ls) → AreMet met (Line.Entry (entry caller op reply) ∷ ls)
@@ -260,10 +256,10 @@ met_some met caller run op reply ls some are b d less = are b d less ∙ by_op o
     by_op (Op.Start c r args) e = let same : run ≡ r = cc in ap (λ (k : Run). (k.0 == b) || ((caller.0 == b) || is_met b ls)) same ∙ turned (r.0 == b) (caller.0 == b) (is_met b ls)
     by_op _ e = absurd cc
 
-pub call_made : (v w : OpenCase) (caller : Run) (op : Op) (reply : Reply) (out written : List ℕ) → IsReplyOf v.state caller op reply → TakesIn v.state (entry caller op reply) w.state → w.state.behaviours ≡ v.state.behaviours → w.sleepers ≡ v.sleepers →
+pub call_made : (v w : OpenCase) (caller : Run) (op : Op) (reply : Reply) (out written : List ℕ) → IsReplyOf v.state caller op reply → TakesIn v.state (entry caller op reply) w.state → w.state.behaviours ≡ v.state.behaviours → w.waited ≡ v.waited →
     ((ls : List Line) → AreMet v.met ls → AreMet w.met (Line.Entry (entry caller op reply) ∷ ls)) → written ≡ out ++ with_lf (line_text (Line.Entry (entry caller op reply))) → IsCalled caller op reply v w out written
-call_made v w caller op reply out written replied takes behaviours sleepers met appends = record {
-  same = sleepers;
+call_made v w caller op reply out written replied takes behaviours waited met appends = record {
+  same = waited;
   replied = answered;
   kept = λ p kept. subst (λ (e : Entry). IsKept w.state w.met (record p { lines = Line.Entry e ∷ p.lines })) (entry_is p kept) (record {
     behaviours = behaviours ∙ kept.behaviours;
@@ -281,15 +277,6 @@ call_made v w caller op reply out written replied takes behaviours sleepers met 
     entry_is : (p : Played) → IsKept v.state v.met p → entry caller op reply ≡ called p.behaviours p.lines caller op
     entry_is p kept = ap (entry caller op) (answered p kept)
 
--- ---- the caller of a call that is no wake
-
-below : (a b : ℕ) → a < b → nat_lt a b ≡ true
-below a b less = grind (arith, nat_tests)
-
--- it did not wait before
-awake : (p : Played) (b : ℕ) → sleep_of p b ≡ None → b < p.behaviours → waiting (played_past p) b ≡ None
-awake p b none less = sym (ap (λ (t : Bool). if t then waiting (played_past p) b else None) (below b p.behaviours less)) ∙ none
-
 -- ---- a call that is barred, and one that is not
 
 pub made_not : (why : Refusal) (p : Played) (caller : Run) (op : Op) (P : Played → Type 0) (Q : Refusal → Type 0) → Some why ≡ result_err (made caller op p) → Q why → MatchResult (made caller op p) P Q
@@ -304,61 +291,14 @@ made_not why p caller op P Q barred holds = by_tests (is_wake op) (is_some (slee
     by_tests false true is = by_why Refusal.Waiting is
     by_tests false false is = absurd cc
 
-module _ (p : Played) (caller : Run) (op : Op) (free : ◌≡◌ {A = Option Refusal} None (result_err (made caller op p))) where
-  pub may_be_awake : sleep_of p caller.0 ≡ None
-  may_be_awake = by_sleep (is_wake op) (sleep_of p caller.0) free
-    where
-      by_sleep : (a : Bool) (o : Option Awaited) → ◌≡◌ {A = Option Refusal} None (result_err {T = Played} (if a then Err Refusal.Wake else if is_some o then Err Refusal.Waiting else Ok (moved p caller op))) → o ≡ None
-      by_sleep true o is = absurd cc
-      by_sleep false (Some x) is = absurd cc
-      by_sleep false None is = refl
-
-  pub made_so : (P : Played → Type 0) (Q : Refusal → Type 0) → P (moved p caller op) → MatchResult (made caller op p) P Q
-  made_so P Q holds = by_tests (is_wake op) (is_some (sleep_of p caller.0)) free
-    where
-      by_tests : (a b : Bool) → ◌≡◌ {A = Option Refusal} None (result_err (if a then Err Refusal.Wake else if b then Err Refusal.Waiting else Ok (moved p caller op))) →
-          MatchResult (if a then Err Refusal.Wake else if b then Err Refusal.Waiting else Ok (moved p caller op)) P Q
-      by_tests true b is = absurd cc
-      by_tests false true is = absurd cc
-      by_tests false false is = holds
-
-module _ (v w : OpenCase) (caller : Run) (op : Op) (reply : Reply) (out written : List ℕ) (call : IsCalled caller op reply v w out written) where
-  -- it does not wait now
-  pub goes_on : None ≡ parks op reply → BecomesAwake caller.0 (λ p. record p { lines = after_call p caller op }) v w out written
-  goes_on goes p closed before none holds = record {
-    is = record {
-      kept = call.kept p holds.is.kept;
-      asleep = rw (ap (λ x. x.items) call.same) (asleep_on p.behaviours v.sleepers.items (played_past p) (called p.behaviours p.lines caller op) holds.is.asleep (awake p caller.0 none) (λ less. ap (parks op) (sym (call.replied p holds.is.kept)) ∙ sym goes));
-    };
-    text = call.text p closed before holds.is.kept holds.text;
-  }
-
-  -- it is no run of the test case
-  pub goes_nowhere : ((p : Played) → IsOpen v p → nat_lt caller.0 p.behaviours ≡ false) → BecomesAwake caller.0 (λ p. record p { lines = after_call p caller op }) v w out written
-  goes_nowhere beyond p closed before none holds =
-      let never : caller.0 < p.behaviours → ⊥ = λ less. let test = sym (beyond p holds.is) ∙ below caller.0 p.behaviours less in cc in
-      record {
-        is = record {
-          kept = call.kept p holds.is.kept;
-          asleep = rw (ap (λ x. x.items) call.same) (asleep_on p.behaviours v.sleepers.items (played_past p) (called p.behaviours p.lines caller op) holds.is.asleep (awake p caller.0 none) (λ less. absurd (never less)));
-        };
-        text = call.text p closed before holds.is.kept holds.text;
-      }
-
-  -- it waits now
-  pub lies_down : (x : OpenCase) (a : Awaited) → x.state ≡ w.state → x.met ≡ w.met → Some a ≡ parks op reply → ((p : Played) → IsOpen v p → nat_lt caller.0 p.behaviours ≡ true) → IsAdded (record { run = caller.0; awaited = a }) w.sleepers.items x.sleepers.items →
-      BecomesAwake caller.0 (λ p. record p { lines = after_call p caller op }) v x out written
-  lies_down x a state met waits within added p closed before none holds =
-      let kept = call.kept p holds.is.kept in
-      let less : caller.0 < p.behaviours = grind (arith, nat_tests, within p holds.is) in
-      record {
-        is = record {
-          kept = rw (state, met) kept;
-          asleep = asleep_more p.behaviours (record { run = caller.0; awaited = a }) v.sleepers.items x.sleepers.items (played_past p) (called p.behaviours p.lines caller op) holds.is.asleep (rw (sym (ap (λ y. y.items) call.same)) added) refl less (awake p caller.0 none less)
-              (ap (parks op) (sym (call.replied p holds.is.kept)) ∙ sym waits);
-        };
-        text = call.text p closed before holds.is.kept holds.text;
-      }
+pub made_so : (p : Played) (caller : Run) (op : Op) (P : Played → Type 0) (Q : Refusal → Type 0) → ◌≡◌ {A = Option Refusal} None (result_err (made caller op p)) → P (moved p caller op) → MatchResult (made caller op p) P Q
+made_so p caller op P Q free holds = by_tests (is_wake op) (is_some (sleep_of p caller.0)) free
+  where
+    by_tests : (a b : Bool) → ◌≡◌ {A = Option Refusal} None (result_err (if a then Err Refusal.Wake else if b then Err Refusal.Waiting else Ok (moved p caller op))) →
+        MatchResult (if a then Err Refusal.Wake else if b then Err Refusal.Waiting else Ok (moved p caller op)) P Q
+    by_tests true b is = absurd cc
+    by_tests false true is = absurd cc
+    by_tests false false is = holds
 
 -- ---- a call, and who is woken by it
 
@@ -369,19 +309,19 @@ some : (o : OpenCase) (p : Played) → IsKept o.state o.met p → 0 < p.behaviou
 some o p kept = omega (arith, kept.few.0)
 
 -- nobody is, and so it was not tried
-pub wakes_none : (v w : OpenCase) (caller : Run) (op : Op) (reply : Reply) (out written : List ℕ) → BecomesAwake caller.0 (λ p. record p { lines = after_call p caller op }) v w out written → ((p : Played) → IsOpen v p → reply ≡ (called p.behaviours p.lines caller op).reply) →
+pub wakes_none : (v w : OpenCase) (caller : Run) (op : Op) (reply : Reply) (out written : List ℕ) → Becomes (λ p. record p { lines = after_call p caller op }) v w out written → ((p : Played) → IsOpen v p → reply ≡ (called p.behaviours p.lines caller op).reply) →
     wakes_nobody (keeps_phases op) reply ≡ true → Moves caller op v w out written
-wakes_none v w caller op reply out written becomes replied nobody p closed before none settled holds =
+wakes_none v w caller op reply out written becomes replied nobody p closed before settled holds =
     let kept = holds.is.kept in
-    subst (λ (q : Played). Holds w q closed before written) (nobody_woken p caller op (some v p kept) (legal v p kept) settled (rw (replied p holds.is) at nobody)) (becomes p closed before none holds)
+    subst (λ (q : Played). Holds w q closed before written) (nobody_woken p caller op (some v p kept) (legal v p kept) settled (rw (replied p holds.is) at nobody)) (becomes p closed before holds)
 
 -- all are who can continue
-pub wakes_all : (v w x : OpenCase) (caller : Run) (op : Op) (out mid written : List ℕ) → BecomesAwake caller.0 (λ p. record p { lines = after_call p caller op }) v w out mid →
+pub wakes_all : (v w x : OpenCase) (caller : Run) (op : Op) (out mid written : List ℕ) → Becomes (λ p. record p { lines = after_call p caller op }) v w out mid →
     Becomes (λ p. record p { lines = woken p.behaviours p.lines p.behaviours }) w x mid written → Moves caller op v x out written
-wakes_all v w x caller op out mid written asks becomes p closed before none settled holds = becomes (record p { lines = after_call p caller op }) closed before (asks p closed before none holds)
+wakes_all v w x caller op out mid written asks becomes p closed before settled holds = becomes (record p { lines = after_call p caller op }) closed before (asks p closed before holds)
 
 -- nobody is left asleep who can continue
-pub moves_rest : (v w : OpenCase) (caller : Run) (op : Op) (out written : List ℕ) → Moves caller op v w out written → (p : Played) (closed : List Played) (before : List ℕ) → sleep_of p caller.0 ≡ None → Rests v p closed before out → Rests w (moved p caller op) closed before written
-moves_rest v w caller op out written moves p closed before none rests =
-    let holds : Holds w (moved p caller op) closed before written = moves p closed before none rests.is.settled (record { is = rests.is.opened; text = rests.text }) in
+pub moves_rest : (v w : OpenCase) (caller : Run) (op : Op) (out written : List ℕ) → Moves caller op v w out written → (p : Played) (closed : List Played) (before : List ℕ) → Rests v p closed before out → Rests w (moved p caller op) closed before written
+moves_rest v w caller op out written moves p closed before rests =
+    let holds : Holds w (moved p caller op) closed before written = moves p closed before rests.is.settled (record { is = rests.is.opened; text = rests.text }) in
     record { is = record { opened = holds.is; settled = moved_settled p caller op (legal v p rests.is.opened.kept) }; text = holds.text }

@@ -1,9 +1,9 @@
 -- What the functions inside say.
-use Rattle.std.specs.{Prelude.{ℕ, ◌≡◌, ◌+◌, ◌-◌, ◌<◌, ◌≤◌, ◌^◌, ◌==◌, suc, if◌then◌else◌, Bool, true, false, is_some, is_none, Option, Some, None, Result, Ok, Err, List, [], ◌∷◌, ◌++◌, length, take, drop, insert, MatchBool, MatchResult, codes, is_err}, Io.KnownBytes.{Appends, Consumes}, List.list_any}
+use Rattle.std.specs.{Prelude.{ℕ, ◌≡◌, ◌+◌, ◌-◌, ◌<◌, ◌≤◌, ◌^◌, if◌then◌else◌, Bool, true, false, is_some, is_none, Option, Some, None, Result, Ok, Err, List, [], ◌∷◌, ◌++◌, length, MatchBool, MatchResult, codes, is_err}, Io.KnownBytes.{Appends, Consumes}, List.list_any}
 use Rattle.tc_stream.specs.Prelude.{AppendsPrefix}
 use Rattle.tc_rules.specs.{Prelude.{Run, IsBehaviours, Kept, StandsFor, waiting, Entry, Op, Reply, entry_made, Verdict, is_over, overall, answer, wake_op}, declared.awaited.Awaited.Awaited}
 use Rattle.tc_blocks.specs.{declared.{line.Line.Line, met.MetRuns.MetRuns}, Prelude.{entries_of, AreMet}}
-use Rattle.tc_serve.specs.{Protocol.{AllEnded, AreServed, Came, IsOf, IsOrderOf, NoLf, OpensNone, Played, Refuses, Sent, ServiceState, after_order, done_of, finished_state, moved, order_text, played_past, refused, seen, sleep_of, woken_from}, Serve.{Devices, HasEnded, bytes_of, lines_messages, stand_text, worst_case}, declared.{service.{ServeFault.ServeFault, Served.Served}, open_case.OpenCase.OpenCase, order.{Order.Order, Refusal.Refusal}, server.Server.Server, serving.Serving.Serving, sleepers.Sleeper.Sleeper}}
+use Rattle.tc_serve.specs.{Protocol.{AllEnded, AreServed, Came, IsOf, IsOrderOf, NoLf, OpensNone, Played, Refuses, Sent, ServiceState, after_order, done_of, finished_state, moved, order_text, played_past, refused, seen, woken_from}, Serve.{Devices, HasEnded, bytes_of, lines_messages, stand_text, worst_case}, declared.{service.{ServeFault.ServeFault, Served.Served}, open_case.OpenCase.OpenCase, order.{Order.Order, Refusal.Refusal}, server.Server.Server, serving.Serving.Serving}}
 
 -- the verdict that a test case counts as: error if it is not over
 abbrev pub counted : Played → Verdict
@@ -43,38 +43,9 @@ IsWhyOther _ line = ⊥
 
 -- ---- the runs that sleep
 
--- what run b waits for, if it is one of these
-abbrev pub sleep_in : List Sleeper → ℕ → Option Awaited
-sleep_in [] b = None
-sleep_in (s ∷ ss) b = if s.run == b then Some s.awaited else sleep_in ss b
-
--- all are before run k
-abbrev pub AllBelow : ℕ → List Sleeper → Type 0
-AllBelow k [] = Unit {0}
-AllBelow k (s ∷ ss) = (s.run < k) × AllBelow k ss
-
--- each comes once, in the order of their numbers, and none is before run k
-abbrev pub AreInOrder : ℕ → List Sleeper → Type 0
-AreInOrder k [] = Unit {0}
-AreInOrder k (s ∷ ss) = (k ≤ s.run) × AreInOrder (s.run + 1) ss
-
--- of n runs these sleep
-pub record AreAsleep (n : ℕ) (ss : List Sleeper) (past : List Entry) : Type 0 where
-  pub order : AreInOrder 0 ss
-  pub few : AllBelow n ss
-  pub sleeps : (b : ℕ) → b < n → sleep_in ss b ≡ waiting past b
-
--- this one is added in its place
-pub record IsAdded (s : Sleeper) (ss ss' : List Sleeper) : Type 0 where
-  pub place : ℕ
-  pub is : ss' ≡ insert ss place s
-  pub below : AreInOrder 0 ss → AllBelow s.run (take place ss)
-  pub from : AreInOrder 0 ss → AreInOrder s.run (drop place ss)
-
--- the one at this place may be removed, and the one after it is at the next place
-pub record IsPassed (ss : List Sleeper) (place : ℕ) (ss' : List Sleeper) (next : ℕ) : Type 0 where
-  pub behind : drop next ss' ≡ drop (suc place) ss
-  pub before : (k : ℕ) → AllBelow k (take (suc place) ss) → AllBelow k (take next ss')
+-- of n runs none from run k on sleeps
+abbrev pub AreAwake : ℕ → ℕ → List Entry → Type 0
+AreAwake k n past = (b : ℕ) → k ≤ b → b < n → waiting past b ≡ None
 
 -- ---- the test case that is open
 
@@ -92,7 +63,8 @@ pub record IsKept (state : Kept) (met : MetRuns) (p : Played) : Type 0 where
 -- it is kept so
 pub record IsOpen (o : OpenCase) (p : Played) : Type 0 where
   pub kept : IsKept o.state o.met p
-  pub asleep : AreAsleep p.behaviours o.sleepers.items (played_past p)
+  pub few : o.waited ≤ p.behaviours
+  pub awake : AreAwake o.waited p.behaviours (played_past p)
 
 -- after these closed ones the text of the test case is what was written before and this
 abbrev pub IsText : Played → List Played → List ℕ → List ℕ → Type 0
@@ -113,7 +85,7 @@ after_call p caller op = Line.Entry (called p.behaviours p.lines caller op) ∷ 
 
 -- a call is made, and has this reply; who sleeps is kept as before
 pub record IsCalled (caller : Run) (op : Op) (reply : Reply) (o o' : OpenCase) (out written : List ℕ) : Type 0 where
-  pub same : o'.sleepers ≡ o.sleepers
+  pub same : o'.waited ≡ o.waited
   pub replied : (p : Played) → IsKept o.state o.met p → reply ≡ (called p.behaviours p.lines caller op).reply
   pub kept : (p : Played) → IsKept o.state o.met p → IsKept o'.state o'.met (record p { lines = after_call p caller op })
   pub text : (p : Played) (closed : List Played) (before : List ℕ) → IsKept o.state o.met p → IsText p closed before out → IsText (record p { lines = after_call p caller op }) closed before written
@@ -126,10 +98,6 @@ woken_once n lines b = woken_from n lines b (waiting (entries_of lines) b)
 abbrev pub Becomes : (Played → Played) → OpenCase → OpenCase → List ℕ → List ℕ → Type 0
 Becomes change o o' out written = (p : Played) (closed : List Played) (before : List ℕ) → Holds o p closed before out → Holds o' (change p) closed before written
 
--- it becomes another, if run b does not sleep
-abbrev pub BecomesAwake : ℕ → (Played → Played) → OpenCase → OpenCase → List ℕ → List ℕ → Type 0
-BecomesAwake b change o o' out written = (p : Played) (closed : List Played) (before : List ℕ) → sleep_of p b ≡ None → Holds o p closed before out → Holds o' (change p) closed before written
-
 -- after an entry with this reply, whose operation keeps the phases or may not, no run can continue that could not before
 abbrev pub wakes_nobody : Bool → Reply → Bool
 wakes_nobody keeps Reply.Ended = true
@@ -137,9 +105,9 @@ wakes_nobody keeps Reply.Parked = false
 wakes_nobody keeps (Reply.Fault f) = false
 wakes_nobody keeps _ = keeps
 
--- a run that does not sleep makes a call while nobody sleeps who can continue, and then all are woken who can
+-- a run makes a call while nobody sleeps who can continue, and then all are woken who can
 abbrev pub Moves : Run → Op → OpenCase → OpenCase → List ℕ → List ℕ → Type 0
-Moves caller op o o' out written = (p : Played) (closed : List Played) (before : List ℕ) → sleep_of p caller.0 ≡ None → IsSettled p → Holds o p closed before out → Holds o' (moved p caller op) closed before written
+Moves caller op o o' out written = (p : Played) (closed : List Played) (before : List ℕ) → IsSettled p → Holds o p closed before out → Holds o' (moved p caller op) closed before written
 
 -- between two lines it is kept so, and nobody sleeps who can continue
 pub record IsAtRest (o : OpenCase) (p : Played) : Type 0 where

@@ -7,7 +7,6 @@ mod order;
 mod server;
 mod service;
 mod serving;
-mod sleepers;
 
 pub use order::Refusal;
 pub use service::{Ending, ServeFault, Served, serve};

@@ -1,14 +1,12 @@
 //! A test case that is open.
-ghost use Rattle.std.specs.{Prelude.{◌≡◌, ◌<◌, ◌++◌, ◌∷◌, [], nat_lt, true, ℕ, List, length, drop, IfOk, OnOk, None, ◌&&◌, if◌then◌else◌}, Io.StartsWith, Result.result_err};
-ghost use Rattle.tc_rules.specs.Prelude.{IsBehaviours, Op as AnyOp, Reply as AnyReply, is_parked, started_run as spec_started};
+ghost use Rattle.std.specs.{Prelude.{◌≡◌, ◌<◌, ◌++◌, ◌∷◌, [], nat_lt, true, ℕ, List, IfOk, OnOk, ◌&&◌}, Io.StartsWith, Result.result_err};
+ghost use Rattle.tc_rules.specs.Prelude.{IsBehaviours, Reply as AnyReply};
 ghost use Rattle.tc_rules.specs.Local as verdicts;
-ghost use Rattle.tc_rules.specs.Waiting as waits;
 ghost use Rattle.tc_text.specs.Prelude.{move_text};
 ghost use Rattle.tc_blocks.specs.Prelude.{outcome_text, with_lf, entry_in, is_met, AreMet};
-ghost use Rattle.tc_serve.specs.{Inside.{Becomes, BecomesAwake, Changes, IsCalled, IsOpen, IsPassed, Moves, after_call, entry, wakes_nobody as spec_wakes_nobody, woken_once, called, counted as spec_counted}, Protocol.{Played as AnyPlayed, made, played_past, sleep_of as spec_sleep, why_text, with_added_line, with_name, woken}};
+ghost use Rattle.tc_serve.specs.{Inside.{Becomes, Changes, IsCalled, IsOpen, Moves, after_call, entry, wakes_nobody as spec_wakes_nobody, woken_once, called, counted as spec_counted}, Protocol.{Played as AnyPlayed, made, played_past, sleep_of as spec_sleep, why_text, with_added_line, with_name, woken}};
 
 use crate::order::{Refusal, Tried};
-use crate::sleepers::{Sleeper, add, awaited_by};
 use std::alloc::Global;
 use tc_blocks::{Line, MetRuns, append_line, append_said};
 use tc_entry::{Name, NoMemory, Op, Reply, Run, Verdict};
@@ -20,45 +18,20 @@ use tc_text::{append_text, write_move, write_reply};
 pub(crate) struct OpenCase {
     /// What is kept of its history.
     state: CaseState,
-    /// The runs that sleep, in the order of their numbers: after a call only these may be woken.
-    sleepers: Vec<Sleeper>,
+    /// Only runs before this one can sleep: after a call only these may be woken.
+    waited: u16,
     /// The runs that some line is about.
     met: MetRuns,
 }
 
-// What a wait or a wake is for.
-fn awaited(op: &Op) -> Option<Awaited>
-    ensures { result ≡ waits.awaited op.now }
-{
-    match op {
-        Op::Wait { killed, target } | Op::Wake { killed, target } => Some(Awaited {
-            killed: *killed,
-            target: *target,
-        }),
-        _ => None,
-    }
-}
-
-// The run that the operation starts, if it starts one.
-fn started(op: &Op) -> Option<Run>
-    ensures { result ≡ spec_started op.now }
-{
-    match op {
-        Op::Start { run, .. } => Some(*run),
-        _ => None,
-    }
-}
-
 // Adds the runs that the line of a call is about: its caller, as for a line that is refused, and the run that it starts.
-fn meet(met: &mut MetRuns, caller: Run, started: Option<Run>)
-    ensures { (op : AnyOp) (reply : AnyReply) (ls : List Line) → started ≡ spec_started op
-        → AreMet met.old ls → AreMet met.new (Line.Entry (entry caller op reply) ∷ ls) }
+fn meet(met: &mut MetRuns, caller: Run, op: &Op)
+    ensures { (reply : AnyReply) (ls : List Line) → AreMet met.old ls → AreMet met.new (Line.Entry (entry caller op.now reply) ∷ ls) }
 {
     met.add_refused(caller);
-    let Some(run) = started else {
-        return;
-    };
-    met.add_refused(run);
+    if let Op::Start { run, .. } = op {
+        met.add_refused(*run);
+    }
 }
 
 // Appends what follows the move of an entry; if memory runs out, a part of it.
@@ -70,24 +43,6 @@ fn append_outcome(out: &mut Vec<u8>, reply: Reply) -> Result<(), NoMemory>
     write_reply(out, &reply)?;
     out.push(b'\n')?;
     Ok(())
-}
-
-// Whether the reply says that the caller sleeps.
-fn is_parked_reply(reply: Reply) -> bool
-    ensures { result ≡ is_parked reply }
-{
-    matches!(reply, Reply::Parked)
-}
-
-// What the caller of a wait for this waits for after the reply.
-fn parks(awaited: Option<Awaited>, reply: Reply) -> Option<Awaited>
-    ensures { result ≡ (if is_parked reply then awaited else None) }
-{
-    if is_parked_reply(reply) {
-        awaited
-    } else {
-        None
-    }
 }
 
 // Whether after an entry with this reply no run can continue that could not before it.
@@ -110,7 +65,7 @@ impl OpenCase {
     {
         Ok(OpenCase {
             state: CaseState::new(alloc, behaviours)?,
-            sleepers: Vec::new(alloc),
+            waited: 0,
             met: MetRuns::none(),
         })
     }
@@ -119,7 +74,11 @@ impl OpenCase {
     fn sleep_of(&self, run: Run) -> Option<Awaited>
         ensures { (p : AnyPlayed) → IsOpen self.now p → result ≡ spec_sleep p run.0 }
     {
-        awaited_by(self.sleepers.as_slice(), run.0)
+        if self.has(run) {
+            self.state.parked(run)
+        } else {
+            None
+        }
     }
 
     // Why a client may not make the call for the run, if it may not.
@@ -196,15 +155,13 @@ impl OpenCase {
             → IsCalled caller op r self.old self.new text out.new.items) }
         ensures any { StartsWith out.new.items out.old.items }
     {
-        let started = started(&op);
+        meet(&mut self.met, caller, &op);
         let reply = self.state.play(caller, op)?;
-        meet(&mut self.met, caller, started);
         append_outcome(out, reply)?;
         Ok(reply)
     }
 
-    // Makes the call that the line asks for, of a run that does not sleep, and appends its entry; its reply. If memory runs
-    // out, a part is appended.
+    // Makes the call that the line asks for, and appends its entry; its reply. If memory runs out, a part is appended.
     fn ask(
         &mut self,
         caller: Run,
@@ -213,47 +170,38 @@ impl OpenCase {
         out: &mut Vec<u8>,
     ) -> Result<Reply, NoMemory>
         requires { line.now ≡ move_text caller.0 op }
-        ensures ok { OnOk result (BecomesAwake caller.0 (λ p. record p { lines = after_call p caller op })
-            self.old self.new out.old.items out.new.items) }
+        ensures ok { OnOk result (Becomes (λ p. record p { lines = after_call p caller op }) self.old self.new out.old.items out.new.items) }
         ensures reply { IfOk result (λ r. (p : AnyPlayed) → IsOpen self.old p → r ≡ (called p.behaviours p.lines caller op).reply) }
         ensures any { StartsWith out.new.items out.old.items }
     {
         let is_own = self.has(caller);
-        let awaited = awaited(&op);
         out.extend_from_slice(line)?;
         let reply = self.call(caller, op, out)?;
-        if !is_own {
-            return Ok(reply);
+        if is_own && matches!(reply, Reply::Parked) {
+            self.waited = self.waited.max(caller.0 + 1);
         }
-        match parks(awaited, reply) {
-            Some(awaited) => {
-                add(&mut self.sleepers, caller.0, awaited)?;
-                Ok(reply)
-            }
-            None => Ok(reply),
-        }
+        Ok(reply)
     }
 
-    // Wakes the run at this place of those that sleep, if it can continue; the place of the next one.
-    fn wake(&mut self, place: usize, out: &mut Vec<u8>) -> Result<usize, NoMemory>
-        requires { place < length self.old.sleepers.items }
-        ensures ok { OnOk result ((s : Sleeper) (behind : List Sleeper) → drop place self.old.sleepers.items ≡ s ∷ behind
-            → Becomes (λ p. record p { lines = woken_once p.behaviours p.lines s.run }) self.old self.new out.old.items out.new.items) }
-        ensures next { IfOk result (IsPassed self.old.sleepers.items place self.new.sleepers.items) }
+    // Wakes the run, if it sleeps and can continue.
+    fn wake(&mut self, run: Run, out: &mut Vec<u8>) -> Result<(), NoMemory>
+        ensures ok { OnOk result (Becomes (λ p. record p { lines = woken_once p.behaviours p.lines run.0 }) self.old self.new out.old.items out.new.items) }
+        ensures same { OnOk result (self.new.waited ≡ self.old.waited) }
         ensures any { StartsWith out.new.items out.old.items }
     {
-        let Sleeper { run, awaited } = self.sleepers[place];
+        let Some(awaited) = self.state.parked(run) else {
+            return Ok(());
+        };
         let op = Op::Wake {
             killed: awaited.killed,
             target: awaited.target,
         };
-        if is_parked_reply(self.state.would(Run(run), &op)) {
-            return Ok(place + 1);
+        if matches!(self.state.would(run, &op), Reply::Parked) {
+            return Ok(());
         }
-        write_move(out, Run(run), &op)?;
-        self.call(Run(run), op, out)?;
-        self.sleepers.remove(place);
-        Ok(place)
+        write_move(out, run, &op)?;
+        self.call(run, op, out)?;
+        Ok(())
     }
 
     // Wakes each run that sleeps and can continue, in the order of their numbers.
@@ -262,9 +210,8 @@ impl OpenCase {
             self.old self.new out.old.items out.new.items) }
         ensures any { StartsWith out.new.items out.old.items }
     {
-        let mut place = 0;
-        while place < self.sleepers.len() {
-            place = self.wake(place, out)?;
+        for run in 0..self.waited {
+            self.wake(Run(run), out)?;
         }
         Ok(())
     }

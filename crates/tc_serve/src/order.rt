@@ -1,16 +1,13 @@
 //! What a line asks for, and why it is refused.
-ghost use Rattle.std.specs.Prelude.{◌≡◌, ◌<◌, ◌^◌, ℕ, List, length, false, true, Ok, Some, None, IfSome, IfOk, IfErr, MatchOption};
+ghost use Rattle.std.specs.Prelude.{◌≡◌, ◌<◌, ◌^◌, ℕ, List, false, true, Ok, Some, None, IfSome, IfOk, IfErr, MatchOption};
 ghost use Rattle.tc_rules.specs.Prelude.{IsName};
 ghost use Rattle.tc_blocks.specs.Prelude.{naming_text, said_text};
-ghost use Rattle.tc_text.specs.Prelude.{IsOp, move_text, op_of};
 ghost use Rattle.tc_serve.specs.{Inside.IsOther, Inside.IsWhyOther, Inside.case_text, Protocol.IsOrder, Protocol.IsWhyNothing, Protocol.order_text, Protocol.why_text};
 
 use std::alloc::Global;
 use tc_blocks::Sentence;
 use tc_entry::{Name, NoMemory, Op, Run};
-use tc_text::{
-    ShortOp, after, as_behaviours, read_move, read_number, take_name, take_run, take_short_move,
-};
+use tc_text::{after, as_behaviours, read_move, read_number, take_name, take_run};
 
 /// How many bytes of a line are looked at: one more than any line has that asks for something.
 pub(crate) const LINE_BYTES: usize = 209;
@@ -114,19 +111,6 @@ fn read_remark(text: &[u8]) -> Option<(Run, &[u8])>
 {
     let (run, rest) = take_run(text)?;
     Some((run, after(rest, b" # ")?))
-}
-
-/// The move that the line spells, if its operation has neither arguments nor a name.
-#[inline(always)]
-pub(crate) fn read_short_move(text: &[u8]) -> Option<(Run, ShortOp)>
-    ensures spelled { IfSome result (λ r. text.now ≡ move_text r.0.0 (op_of r.1)) }
-    ensures fits { IfSome result (λ r. (r.0.0 < 2 ^ 16) × IsOp (op_of r.1)) }
-{
-    let (one, rest) = take_short_move::<()>(text)?;
-    if !rest.is_empty() {
-        return None;
-    }
-    Some(one)
 }
 
 // What the line asks for, if it is neither a move nor a remark, or why it asks for nothing.

@@ -5,10 +5,10 @@ ghost use Rattle.tc_text.specs.Prelude.{move_text};
 ghost use Rattle.tc_serve.specs.{Inside.StandsAs, Inside.TellsRun, Inside.Tries, Inside.TriesLine, Inside.start as spec_start, Protocol.IsOf, Protocol.IsOrder, Protocol.ServiceState as AnyStand, Protocol.after_order, Protocol.made, Protocol.order_text, Protocol.with_added_line, Protocol.with_name, Protocol.with_open, Serve.worst_case};
 
 use crate::open_case::OpenCase;
-use crate::order::{Order, Refusal, Tried, read_order, read_short_move};
+use crate::order::{Order, Refusal, Tried, read_order};
 use tc_blocks::{Header, Kind, Line, Sentence, append_end, append_first_line};
 use tc_entry::{Name, NoMemory, Op, Run, Verdict};
-use tc_text::take_run;
+use tc_text::{read_short_move, take_run};
 use tc_verdict::worse_of;
 
 /// The test case that is open, if one is, and the worst verdict of those that were closed.
@@ -163,7 +163,7 @@ impl Server {
         if !ended {
             return Ok(Some(Refusal::Unended));
         }
-        if let Some((caller, op)) = read_short_move(line) {
+        if let Some((caller, op)) = read_short_move::<()>(line) {
             return self.make(caller, op.op(), line, out);
         }
         self.try_any(line, out)

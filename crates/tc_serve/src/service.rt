@@ -4,7 +4,7 @@ ghost use Rattle.tc_stream.specs.Prelude.{AppendsPrefix};
 ghost use Rattle.tc_serve.specs.{Inside.Hears, Inside.IsAt, Inside.IsFed, Inside.IsTurn, Serve.Devices as AnyDevices, Serve.IsServiceEnd, Serve.devices};
 
 use crate::order::Refusal;
-use crate::serving::Serving;
+use crate::serving::{Serving, Texts};
 use std::alloc::Global;
 use std::io::{Read, Write};
 use tc_entry::{NoMemory, Verdict};
@@ -54,13 +54,6 @@ pub struct Ending {
     pub outcome: Result<Served, ServeFault>,
     /// Whether standard error took all that was written to it.
     pub told: bool,
-}
-
-/// The answers and the reports of a turn. They are kept for the next turn, whose answers usually fit into the same memory.
-#[derive(Drop)]
-struct Texts {
-    out: Vec<u8>,
-    told: Vec<u8>,
 }
 
 /// A writer that takes texts whole and flushed, and none after one that failed. The library has no ghost word for a failed
@@ -172,7 +165,7 @@ fn turn<R: CountedRead, W: FlushedWrite, E: CountedWrite>(
     };
     texts.out.clear();
     texts.told.clear();
-    let end = serving.take_read(&chunk[..count], &mut texts.out, &mut texts.told);
+    let end = serving.take_read(&chunk[..count], texts);
     let taken = tell(errors, *heard, texts.told.as_slice());
     *heard = taken;
     match writer.put(texts.out.as_slice()) {

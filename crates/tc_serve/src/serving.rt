@@ -9,6 +9,13 @@ use std::alloc::Global;
 use tc_entry::NoMemory;
 use tc_text::{append_number, append_text};
 
+/// The answers and the reports of a turn. They are kept for the next turn, whose answers usually fit into the same memory.
+#[derive(Drop)]
+pub(crate) struct Texts {
+    pub(crate) out: Vec<u8>,
+    pub(crate) told: Vec<u8>,
+}
+
 /// A server whose lines come in pieces.
 #[derive(Drop)]
 pub(crate) struct Serving {
@@ -74,72 +81,62 @@ impl Serving {
     }
 
     // Serves the line, which LF ended or the input; if a fault ends the service, a part may have been appended.
-    fn answer(
-        &mut self,
-        ended: bool,
-        out: &mut Vec<u8>,
-        told: &mut Vec<u8>,
-    ) -> Result<(), ServeFault>
-        ensures ok { OnOk result (Serves ended self.old self.new out.old.items out.new.items told.old.items told.new.items) }
-        ensures fault { IfErr result (Fails ended self.old out.old.items told.old.items) }
+    fn answer(&mut self, ended: bool, texts: &mut Texts) -> Result<(), ServeFault>
+        ensures ok { OnOk result (Serves ended self.old self.new texts.old.out.items texts.new.out.items texts.old.told.items texts.new.told.items) }
+        ensures fault { IfErr result (Fails ended self.old texts.old.out.items texts.old.told.items) }
         ensures own { IfErr result IsOwn }
-        ensures any { StartsWith out.new.items out.old.items }
-        ensures any_told { StartsWith told.new.items told.old.items }
+        ensures any { StartsWith texts.new.out.items texts.old.out.items }
+        ensures any_told { StartsWith texts.new.told.items texts.old.told.items }
     {
         if self.lines == usize::MAX {
             return Err(ServeFault::TooLong);
         }
         self.lines += 1;
         let line = self.line.as_slice();
-        let Some(why) = self.server.try_line(ended, line, out)? else {
+        let Some(why) = self.server.try_line(ended, line, &mut texts.out)? else {
             return Ok(());
         };
         if !self.server.is_open() {
             return Err(ServeFault::Line(self.lines, why));
         }
         self.refused = true;
-        if self.server.refuse(self.line.as_slice(), why, out)? {
+        if self.server.refuse(line, why, &mut texts.out)? {
             return Ok(());
         }
-        append_refusal(told, self.lines, why)?;
+        append_refusal(&mut texts.told, self.lines, why)?;
         Ok(())
     }
 
     // Serves the line, which LF ended or the input; if a fault ends the service, nothing is appended.
-    fn serve_line(
-        &mut self,
-        ended: bool,
-        out: &mut Vec<u8>,
-        told: &mut Vec<u8>,
-    ) -> Result<(), ServeFault>
-        ensures ok { OnOk result (Serves ended self.old self.new out.old.items out.new.items told.old.items told.new.items) }
-        ensures fault { IfErr result (Fails ended self.old out.old.items told.old.items) }
+    fn serve_line(&mut self, ended: bool, texts: &mut Texts) -> Result<(), ServeFault>
+        ensures ok { OnOk result (Serves ended self.old self.new texts.old.out.items texts.new.out.items texts.old.told.items texts.new.told.items) }
+        ensures fault { IfErr result (Fails ended self.old texts.old.out.items texts.old.told.items) }
         ensures own { IfErr result IsOwn }
-        ensures err { OnErr result (out.new.items ≡ out.old.items) }
-        ensures err_told { OnErr result (told.new.items ≡ told.old.items) }
+        ensures err { OnErr result (texts.new.out.items ≡ texts.old.out.items) }
+        ensures err_told { OnErr result (texts.new.told.items ≡ texts.old.told.items) }
     {
-        let written = out.len();
-        let said = told.len();
-        match self.answer(ended, out, told) {
+        let written = texts.out.len();
+        let said = texts.told.len();
+        match self.answer(ended, texts) {
             Ok(()) => Ok(()),
             Err(fault) => {
-                out.truncate(written);
-                told.truncate(said);
+                texts.out.truncate(written);
+                texts.told.truncate(said);
                 Err(fault)
             }
         }
     }
 
     // Serves the line that LF ended, and begins the next one.
-    fn end_line(&mut self, out: &mut Vec<u8>, told: &mut Vec<u8>) -> Result<(), ServeFault>
-        ensures ok { OnOk result ((bytes before before' : List ℕ) → IsFed bytes self.old before out.old.items before' told.old.items
-            → IsFed (bytes ++ 10 ∷ []) self.new before out.new.items before' told.new.items) }
+    fn end_line(&mut self, texts: &mut Texts) -> Result<(), ServeFault>
+        ensures ok { OnOk result ((bytes before before' : List ℕ) → IsFed bytes self.old before texts.old.out.items before' texts.old.told.items
+            → IsFed (bytes ++ 10 ∷ []) self.new before texts.new.out.items before' texts.new.told.items) }
         ensures stopped { IfErr result (λ f. (bytes more before before' : List ℕ) (input : Option (List ℕ))
-            → IsFed bytes self.old before out.old.items before' told.old.items
-            → HasEnded (bytes ++ 10 ∷ more) input (before ++ out.new.items) (before' ++ told.new.items) (Err f)) }
+            → IsFed bytes self.old before texts.old.out.items before' texts.old.told.items
+            → HasEnded (bytes ++ 10 ∷ more) input (before ++ texts.new.out.items) (before' ++ texts.new.told.items) (Err f)) }
         ensures own { IfErr result IsOwn }
     {
-        match self.serve_line(true, out, told) {
+        match self.serve_line(true, texts) {
             Ok(()) => {
                 self.line.clear();
                 Ok(())
@@ -162,15 +159,10 @@ impl Serving {
     }
 
     // Takes what these bytes begin with of a line, and serves the line if it ends there; what follows.
-    fn take<'a>(
-        &mut self,
-        bytes: &'a [u8],
-        out: &mut Vec<u8>,
-        told: &mut Vec<u8>,
-    ) -> Result<&'a [u8], ServeFault>
+    fn take<'a>(&mut self, bytes: &'a [u8], texts: &mut Texts) -> Result<&'a [u8], ServeFault>
         requires { bytes.now ≢ [] }
-        ensures ok { IfOk result (λ rest. TakesPiece bytes.now rest.now self.old self.new out.old.items out.new.items told.old.items told.new.items) }
-        ensures stopped { IfErr result (λ f. StopsIn bytes.now self.old out.old.items out.new.items told.old.items told.new.items f) }
+        ensures ok { IfOk result (λ rest. TakesPiece bytes.now rest.now self.old self.new texts.old.out.items texts.new.out.items texts.old.told.items texts.new.told.items) }
+        ensures stopped { IfErr result (λ f. StopsIn bytes.now self.old texts.old.out.items texts.new.out.items texts.old.told.items texts.new.told.items f) }
         ensures own { IfErr result IsOwn }
     {
         let (piece, rest) = cut_line(bytes);
@@ -179,7 +171,7 @@ impl Serving {
         }
         match rest.split_first() {
             None => Ok(rest),
-            Some((_, behind)) => match self.end_line(out, told) {
+            Some((_, behind)) => match self.end_line(texts) {
                 Ok(()) => Ok(behind),
                 Err(fault) => Err(fault),
             },
@@ -187,19 +179,14 @@ impl Serving {
     }
 
     // Takes these bytes, and serves each line that ends in them.
-    fn feed(
-        &mut self,
-        bytes: &[u8],
-        out: &mut Vec<u8>,
-        told: &mut Vec<u8>,
-    ) -> Result<(), ServeFault>
-        ensures ok { OnOk result (Feeds bytes.now self.old self.new out.old.items out.new.items told.old.items told.new.items) }
-        ensures stopped { IfErr result (λ f. StopsIn bytes.now self.old out.old.items out.new.items told.old.items told.new.items f) }
+    fn feed(&mut self, bytes: &[u8], texts: &mut Texts) -> Result<(), ServeFault>
+        ensures ok { OnOk result (Feeds bytes.now self.old self.new texts.old.out.items texts.new.out.items texts.old.told.items texts.new.told.items) }
+        ensures stopped { IfErr result (λ f. StopsIn bytes.now self.old texts.old.out.items texts.new.out.items texts.old.told.items texts.new.told.items f) }
         ensures own { IfErr result IsOwn }
     {
         let mut rest = bytes;
         while !rest.is_empty() {
-            match self.take(rest, out, told) {
+            match self.take(rest, texts) {
                 Ok(behind) => rest = behind,
                 Err(fault) => return Err(fault),
             }
@@ -208,54 +195,54 @@ impl Serving {
     }
 
     // Serves a last line that no LF ends, if there is one.
-    fn end_last(&mut self, out: &mut Vec<u8>, told: &mut Vec<u8>) -> Result<(), ServeFault>
-        ensures ok { OnOk result ((bytes before before' : List ℕ) → IsFed bytes self.old before out.old.items before' told.old.items
-            → IsEnd bytes self.new before out.new.items before' told.new.items) }
+    fn end_last(&mut self, texts: &mut Texts) -> Result<(), ServeFault>
+        ensures ok { OnOk result ((bytes before before' : List ℕ) → IsFed bytes self.old before texts.old.out.items before' texts.old.told.items
+            → IsEnd bytes self.new before texts.new.out.items before' texts.new.told.items) }
         ensures stopped { IfErr result (λ f. (bytes before before' : List ℕ) (input : Option (List ℕ)) → IsAtEnd input
-            → IsFed bytes self.old before out.old.items before' told.old.items
-            → HasEnded bytes input (before ++ out.new.items) (before' ++ told.new.items) (Err f)) }
+            → IsFed bytes self.old before texts.old.out.items before' texts.old.told.items
+            → HasEnded bytes input (before ++ texts.new.out.items) (before' ++ texts.new.told.items) (Err f)) }
         ensures own { IfErr result IsOwn }
     {
         if self.line.is_empty() {
             return Ok(());
         }
-        match self.serve_line(false, out, told) {
+        match self.serve_line(false, texts) {
             Ok(()) => Ok(()),
             Err(fault) => Err(fault),
         }
     }
 
     // Closes the test case that is open, if one is, and reports that. If memory runs out, nothing is appended.
-    fn close(&mut self, out: &mut Vec<u8>, told: &mut Vec<u8>) -> Result<(), NoMemory>
-        ensures ok { OnOk result (Closes self.old self.new out.old.items out.new.items told.old.items told.new.items) }
-        ensures err { OnErr result (out.new.items ≡ out.old.items) }
-        ensures err_told { OnErr result (told.new.items ≡ told.old.items) }
+    fn close(&mut self, texts: &mut Texts) -> Result<(), NoMemory>
+        ensures ok { OnOk result (Closes self.old self.new texts.old.out.items texts.new.out.items texts.old.told.items texts.new.told.items) }
+        ensures err { OnErr result (texts.new.out.items ≡ texts.old.out.items) }
+        ensures err_told { OnErr result (texts.new.told.items ≡ texts.old.told.items) }
         ensures refused { self.new.refused ≡ self.old.refused }
     {
-        let written = out.len();
-        let said = told.len();
-        append_end(told, self.server.is_open())?;
-        match self.server.close(out) {
+        let written = texts.out.len();
+        let said = texts.told.len();
+        append_end(&mut texts.told, self.server.is_open())?;
+        match self.server.close(&mut texts.out) {
             Ok(_) => Ok(()),
             Err(NoMemory) => {
-                out.truncate(written);
-                told.truncate(said);
+                texts.out.truncate(written);
+                texts.told.truncate(said);
                 Err(NoMemory)
             }
         }
     }
 
     // The input has ended: serves a last line that no LF ends, if there is one, and closes the test case that is open.
-    fn finish(&mut self, out: &mut Vec<u8>, told: &mut Vec<u8>) -> Result<Served, ServeFault>
+    fn finish(&mut self, texts: &mut Texts) -> Result<Served, ServeFault>
         ensures ended { (bytes before before' : List ℕ) (input : Option (List ℕ)) → IsAtEnd input
-            → IsFed bytes self.old before out.old.items before' told.old.items
-            → HasEnded bytes input (before ++ out.new.items) (before' ++ told.new.items) result }
+            → IsFed bytes self.old before texts.old.out.items before' texts.old.told.items
+            → HasEnded bytes input (before ++ texts.new.out.items) (before' ++ texts.new.told.items) result }
         ensures own { IfErr result IsOwn }
     {
-        if let Err(fault) = self.end_last(out, told) {
+        if let Err(fault) = self.end_last(texts) {
             return Err(fault);
         }
-        match self.close(out, told) {
+        match self.close(texts) {
             Ok(()) => Ok(Served {
                 worst: self.server.worst(),
                 refused: self.refused,
@@ -270,19 +257,18 @@ impl Serving {
     pub fn take_read(
         &mut self,
         bytes: &[u8],
-        out: &mut Vec<u8>,
-        told: &mut Vec<u8>,
+        texts: &mut Texts,
     ) -> Result<Option<Served>, ServeFault>
         ensures turn { (read before before' : List ℕ) (input : Option (List ℕ)) → (length bytes.now ≡ 0 → IsAtEnd input)
-            → IsFed read self.old before out.old.items before' told.old.items
-            → IsTurn ((0 < length bytes.now) × IsFed (read ++ bytes.now) self.new before out.new.items before' told.new.items)
-            (HasEnded (read ++ bytes.now) input (before ++ out.new.items) (before' ++ told.new.items)) result }
+            → IsFed read self.old before texts.old.out.items before' texts.old.told.items
+            → IsTurn ((0 < length bytes.now) × IsFed (read ++ bytes.now) self.new before texts.new.out.items before' texts.new.told.items)
+            (HasEnded (read ++ bytes.now) input (before ++ texts.new.out.items) (before' ++ texts.new.told.items)) result }
         ensures own { IfErr result IsOwn }
     {
         if bytes.is_empty() {
-            return Ok(Some(self.finish(out, told)?));
+            return Ok(Some(self.finish(texts)?));
         }
-        self.feed(bytes, out, told)?;
+        self.feed(bytes, texts)?;
         Ok(None)
     }
 }

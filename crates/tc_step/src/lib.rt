@@ -4,13 +4,12 @@
 mod limits;
 mod operation;
 mod place;
-mod places;
 mod script;
 mod step;
 
 pub use limits::STEPS;
-pub use place::{GroupPlace, Place, TargetPlace};
-pub use places::Places;
+pub use operation::{arguments, component, group, target};
+pub use place::{GroupPlace, Place, Places, TargetPlace};
 pub use script::Script;
 pub use step::{Status, Step};
 pub use tc_entry::Name;

@@ -2,31 +2,23 @@
 ghost use Rattle.std.specs.Prelude.{◌≡◌, map};
 ghost use Rattle.tc_step.specs.Operation.{component as component_of, group as group_of, operation as operation_of, question as question_of, target as target_of};
 
-use crate::place::{GroupPlace, Place, TargetPlace};
-use crate::places::Places;
+use crate::place::{GroupPlace, Place, Places, TargetPlace};
 use crate::step::{Status, Step};
 use tc_entry::{Args, Comp, Group, Name, Op, Target};
 
-// The component that a place names.
-fn component(me: Comp, bound: &[Comp], place: Place) -> Comp
+/// The component that a place names, by the component of the behaviour and those that are bound there.
+pub fn component(me: Comp, bound: &[Comp], place: Place) -> Comp
     ensures { result ≡ component_of me bound.now place }
 {
     match place {
         Place::Main => Comp(0),
         Place::Own => me,
-        Place::Bound(index) => {
-            let index = usize::from(index);
-            if index < bound.len() {
-                bound[index]
-            } else {
-                Comp(0)
-            }
-        }
+        Place::Bound(index) => bound.get(usize::from(index)).copied().unwrap_or(Comp(0)),
     }
 }
 
-// The group that a place names.
-fn group(me: Comp, bound: &[Comp], place: GroupPlace) -> Group
+/// The group that a step stops or kills.
+pub fn group(me: Comp, bound: &[Comp], place: GroupPlace) -> Group
     ensures { result ≡ group_of me bound.now place }
 {
     match place {
@@ -35,8 +27,8 @@ fn group(me: Comp, bound: &[Comp], place: GroupPlace) -> Group
     }
 }
 
-// The target that a place names.
-fn target(me: Comp, bound: &[Comp], place: TargetPlace) -> Target
+/// The target that a step asks about or waits for.
+pub fn target(me: Comp, bound: &[Comp], place: TargetPlace) -> Target
     ensures { result ≡ target_of me bound.now place }
 {
     match place {
@@ -46,7 +38,8 @@ fn target(me: Comp, bound: &[Comp], place: TargetPlace) -> Target
     }
 }
 
-fn arguments(me: Comp, bound: &[Comp], places: &Places) -> Args
+/// The arguments of a start.
+pub fn arguments(me: Comp, bound: &[Comp], places: &Places) -> Args
     ensures { result ≡ map (component_of me bound.now) places.now }
 {
     let mut args = Args::new();

@@ -1,9 +1,8 @@
 //! A step of a scripted behaviour.
 ghost use Rattle.std.specs.Prelude.{◌↔◌, ◌∷◌, IsTrue, All};
-ghost use Rattle.tc_step.specs.Steps.{IsBound, of_group, of_target, places};
+ghost use Rattle.tc_step.specs.Steps.{IsBound, places};
 
-use crate::place::{GroupPlace, Place, TargetPlace};
-use crate::places::Places;
+use crate::place::{GroupPlace, Place, Places, TargetPlace};
 use tc_entry::Name;
 use tc_verdict::{Run, UserVerdict};
 
@@ -39,24 +38,6 @@ pub enum Step {
     GetVerdict,
 }
 
-fn is_group_bound(group: GroupPlace, count: usize) -> bool
-    ensures { IsTrue result ↔ All (IsBound count) (of_group group) }
-{
-    match group {
-        GroupPlace::One(place) => place.is_bound(count),
-        GroupPlace::All => true,
-    }
-}
-
-fn is_target_bound(target: TargetPlace, count: usize) -> bool
-    ensures { IsTrue result ↔ All (IsBound count) (of_target target) }
-{
-    match target {
-        TargetPlace::One(place) => place.is_bound(count),
-        _ => true,
-    }
-}
-
 #[tactic(auto, using(crate::proofs::Binding::cons_rules))]
 fn is_start_bound(on: Place, args: &Places, count: usize) -> bool
     ensures { IsTrue result ↔ All (IsBound count) (on ∷ args.now) }
@@ -71,9 +52,13 @@ impl Step {
     {
         match self {
             Step::Start { on, args, .. } => is_start_bound(*on, args, count),
-            Step::Stop(group) | Step::Kill(group) => is_group_bound(*group, count),
-            Step::Ask(_, target) => is_target_bound(*target, count),
-            Step::Wait { target, .. } => is_target_bound(*target, count),
+            Step::Stop(GroupPlace::One(place))
+            | Step::Kill(GroupPlace::One(place))
+            | Step::Ask(_, TargetPlace::One(place))
+            | Step::Wait {
+                target: TargetPlace::One(place),
+                ..
+            } => place.is_bound(count),
             _ => true,
         }
     }

@@ -1,7 +1,7 @@
 //! Calls on a table, text in and text out, and the numbers that they answer.
 ghost use Rattle.std.specs.Prelude.{ℕ, List, ◌≡◌, ◌≢◌, ◌<◌, ◌≤◌, ◌+◌, ◌↔◌, ◌++◌, length, IfNone, IfSome, Some, true};
 ghost use Rattle.tc_rules.specs.Prelude.{IsName};
-ghost use Rattle.tc_text.specs.Prelude.{op_of, reply_text};
+ghost use Rattle.tc_text.specs.Prelude.{reply_text};
 ghost use Rattle.tc_table.specs.Calls.{Begins, Exceeds, Fills, IsAnswer, IsHistoryGiven, Spells, after_call, host_view, table_reply, written_text};
 
 use crate::held_case::HeldCase;
@@ -11,7 +11,7 @@ use tc_blocks::laws::entries_fit;
 use tc_blocks::write_block;
 use tc_entry::{Name, Op, Reply, Run, name_of_fault};
 use tc_rules::Table;
-use tc_text::{ShortOp, read_move, take_short_move};
+use tc_text::{read_move, read_short_move};
 use tc_verdict::name as name_of;
 
 // The numbers that calls answer, as `clients/cpp/filskeam.h` explains them.
@@ -121,21 +121,12 @@ fn answer_move(
     give_text(room, count, first.as_bytes(), second.as_bytes())
 }
 
-// The move that the text spells, if its operation has neither arguments nor a name.
-#[inline(always)]
-fn read_short_move(text: &[u8]) -> Option<(Run, ShortOp)>
-    ensures { IfSome result (λ m. Spells text.now m.0.0 (op_of m.1)) }
-{
-    let (one, rest) = take_short_move::<HeldCase>(text)?;
-    if rest.is_empty() { Some(one) } else { None }
-}
-
 // Gives the reply to the call that the text spells, if it spells one and the reply has room. Makes the call if `is_made`.
 // Most operations are small, and so quickly passed on: they are tried first.
 fn answer(table: &mut Table, text: &[u8], is_made: bool, room: &mut [u8], count: &mut usize) -> u8
     ensures { IsAnswer is_made (Some table.old) (Some table.new) text.now room.old room.new count.old count.new result }
 {
-    if let Some((caller, op)) = read_short_move(text) {
+    if let Some((caller, op)) = read_short_move::<HeldCase>(text) {
         return answer_move(table, caller, op.op(), is_made, room, count);
     }
     match read_move(text) {

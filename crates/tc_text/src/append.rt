@@ -1,6 +1,7 @@
 //! Appending to a text.
-ghost use Rattle.std.specs.{Prelude.{◌≡◌, ◌<◌, ◌++◌, OnOk, OnErr}, Fmt.decimal};
+ghost use Rattle.std.specs.{Prelude.{◌≡◌, ◌++◌, OnOk, OnErr}, Fmt.decimal};
 
+use itoa::Buffer;
 use tc_entry::NoMemory;
 
 /// Appends the text. If memory runs out, nothing is appended.
@@ -17,17 +18,6 @@ pub fn append_number(out: &mut Vec<u8>, number: u64) -> Result<(), NoMemory>
     ensures ok { OnOk result (out.new.items ≡ out.old.items ++ decimal number) }
     ensures err { OnErr result (out.new.items ≡ out.old.items) }
 {
-    let mut digits = [0u8; 20];
-    let mut start = 20;
-    let mut left = number;
-    while left >= 10 {
-        start -= 1;
-        digits[start] = b'0' + (left % 10) as u8;
-        left /= 10;
-    }
-    start -= 1;
-    digits[start] = b'0' + left as u8;
-    let (_, written) = digits.split_at(start);
-    out.extend_from_slice(written)?;
-    Ok(())
+    let mut digits = Buffer::new();
+    append_text(out, digits.format(number))
 }

@@ -114,10 +114,8 @@ fn append_reply(out: &mut Vec<u8>, reply: &Reply) -> Result<(), NoMemory>
 {
     match *reply {
         Reply::Made(comp) => {
-            match append_text(out, "made ") {
-                Ok(()) => append_number(out, u64::from(comp.0)),
-                Err(error) => Err(error),
-            }
+            append_text(out, "made ")?;
+            append_number(out, u64::from(comp.0))
         }
         Reply::Ok => append_text(out, "ok"),
         Reply::Answer(true) => append_text(out, "true"),
@@ -127,10 +125,8 @@ fn append_reply(out: &mut Vec<u8>, reply: &Reply) -> Result<(), NoMemory>
         Reply::Parked => append_text(out, "parked"),
         Reply::Ended => append_text(out, "ended"),
         Reply::Fault(fault) => {
-            match append_text(out, "error ") {
-                Ok(()) => append_text(out, name_of_fault(fault)),
-                Err(error) => Err(error),
-            }
+            append_text(out, "error ")?;
+            append_text(out, name_of_fault(fault))
         }
     }
 }

@@ -1,9 +1,8 @@
 //! Lines for a reader next to an answer, by their parts.
 ghost use Rattle.std.specs.Prelude.{◌≡◌, ◌++◌, [], ◌∷◌, IfOk, OnOk, flat_map, map};
-ghost use Rattle.tc_text.specs.{Inside.{part_text, prose_text, as_printable as printable_byte}, Said.{TellsLine, ends_word as word_ends, part_words, shown_line}};
+ghost use Rattle.tc_text.specs.{Inside.{part_text, prose_text, as_printable as printable_byte}, Said.{TellsLine, ends_word as word_ends, is_plain as plain, part_words, shown_line}};
 
 use crate::append::append_number;
-use crate::shown::is_plain;
 use std::alloc::Global;
 use tc_verdict::NoMemory;
 
@@ -16,6 +15,13 @@ pub enum Part<'a> {
     Number(u64),
     /// A word, after a space.
     Word(&'a [u8]),
+}
+
+/// Whether the byte is from 32 to 126.
+pub fn is_plain(byte: u8) -> bool
+    ensures { result ≡ plain byte }
+{
+    32 <= byte && byte <= 126
 }
 
 // Whether a word ends before this text: no letter, digit or `_` comes first.
@@ -86,22 +92,15 @@ fn printed(alloc: Global, text: &[u8]) -> Result<Vec<u8>, NoMemory>
     Ok(text.iter().map(|byte| printable(*byte)).collect(alloc)?)
 }
 
-// Appends a line with this text after a space.
-fn append_ended(out: &mut Vec<u8>, text: &[u8]) -> Result<(), NoMemory>
-    ensures { OnOk result (out.new.items ≡ out.old.items ++ (32 ∷ (text.now ++ 10 ∷ []))) }
-{
-    append_spaced(out, text)?;
-    out.push(b'\n')?;
-    Ok(())
-}
-
 /// Appends a line of this text after a space, with a question mark for each byte that is not from 32 to 126. If memory
 /// runs out, a part of it.
 pub fn append_shown(alloc: Global, out: &mut Vec<u8>, text: &[u8]) -> Result<(), NoMemory>
     ensures { OnOk result (out.new.items ≡ out.old.items ++ shown_line text.now) }
 {
     let shown = printed(alloc, text)?;
-    append_ended(out, shown.as_slice())
+    append_spaced(out, shown.as_slice())?;
+    out.push(b'\n')?;
+    Ok(())
 }
 
 /// Appends a line of these parts after a space, with a question mark for each byte that is not from 32 to 126. If

@@ -152,3 +152,13 @@ pub fn take_short_move<T>(text: &[u8]) -> Option<((Run, ShortOp), &[u8])>
     let (op, rest) = take_short_op::<T>(rest)?;
     Some(((caller, op), rest))
 }
+
+/// The move that the text spells, if its operation has neither arguments nor a name. The type says who reads.
+#[inline(always)]
+pub fn read_short_move<T>(text: &[u8]) -> Option<(Run, ShortOp)>
+    ensures spelled { IfSome result (λ r. text.now ≡ move_text r.0.0 (op_of r.1)) }
+    ensures fits { IfSome result (λ r. (r.0.0 < 2 ^ 16) × IsOp (op_of r.1)) }
+{
+    let (one, rest) = take_short_move::<T>(text)?;
+    if rest.is_empty() { Some(one) } else { None }
+}

@@ -1,6 +1,6 @@
 -- The chosen ones of the test cases that were made of a script are those of the chosen ones of the script, and all
 -- shards together have each. The number of a line before its words.
-use Rattle.std.{proofs.{Common.{ℕ, ◌≡◌, ◌∙◌, ◌+◌, ◌&&◌, ◌||◌, Bool, true, false, List, [], ◌∷◌, Option, Some, None, Ok, All, ap, ap₂, refl, subst, sym, true≢false, ◌++◌, codes, append_assoc, ◌%◌}, lemmas.{Bool.{eq-eqb, eqb-true}, List.Elements.{All-cons, All-head, All-tail}}, Math.Nat.mod-lt}, specs.{Fmt.decimal, List.{AllZip, list_any}, Prelude.{filter, if◌then◌else◌, map}}}
+use Rattle.std.{proofs.{Common.{ℕ, ◌≡◌, ◌∙◌, ◌+◌, ◌&&◌, ◌||◌, Bool, true, false, List, [], ◌∷◌, Option, Some, None, Ok, All, ap, ap₂, refl, subst, sym, true≢false, ◌++◌, codes, append_assoc, ◌%◌}, lemmas.{Bool.{eq-eqb, eqb-true}, List.Elements.{All-cons, All-filter, All-head, All-tail}}, Math.Nat.mod-lt}, specs.{Fmt.decimal, List.{AllZip, list_any}, Prelude.{filter, if◌then◌else◌, map}}}
 use Rattle.tc_rules.specs.Prelude.{matches, ShardView, has_place}
 use Rattle.tc_exec.specs.declared.test_case.Case.{Case}
 use Rattle.tc_step.specs.Prelude.{ScriptView}
@@ -13,18 +13,14 @@ module _ {C : Type 0} (P : C → Type 0) where
   all_with true c cs one rest = All-cons P c cs one rest
   all_with false c cs one rest = rest
 
-  pub all_filtered : (test : C → Bool) (cs : List C) → All P cs → All P (filter test cs)
-  all_filtered test [] each = each
-  all_filtered test (c ∷ cs) each = all_with (test c) c (filter test cs) (All-head P c cs each) (all_filtered test cs (All-tail P c cs each))
-
   all_placed : (s : ShardView) (place : ℕ) (cs : List C) → All P cs → All P (placed_in_shard s place cs)
   all_placed s place [] each = each
   all_placed s place (c ∷ cs) each =
       all_with (has_place s place) c (placed_in_shard s (place + 1) cs) (All-head P c cs each) (all_placed s (place + 1) cs (All-tail P c cs each))
 
   pub all_chosen : (name_of : C → List ℕ) (only : List (List ℕ)) (shard : Option ShardView) (cs : List C) → All P cs → All P (chosen name_of only shard cs)
-  all_chosen name_of only None cs each = all_filtered (λ c. is_asked only (name_of c)) cs each
-  all_chosen name_of only (Some s) cs each = all_placed s 0 (named name_of only cs) (all_filtered (λ c. is_asked only (name_of c)) cs each)
+  all_chosen name_of only None cs each = All-filter (λ c. is_asked only (name_of c)) P cs each
+  all_chosen name_of only (Some s) cs each = all_placed s 0 (named name_of only cs) (All-filter (λ c. is_asked only (name_of c)) P cs each)
 
 -- ---- names that are there once
 
@@ -91,31 +87,33 @@ distinct_chosen : (only : List Word) (shard : Option ShardView) (cs : List CaseV
 distinct_chosen only None cs each = distinct_filtered (λ c. is_asked only c.0) cs each
 distinct_chosen only (Some s) cs each = distinct_placed s 0 (named script_name only cs) (distinct_filtered (λ c. is_asked only c.0) cs each)
 
+-- of two lists, place by place, those that pass tests which agree
+module _ {A B : Type 0} (R : A → B → Type 0) where
+  pub zip_with : (a b : Bool) (x : A) (y : B) (xs : List A) (ys : List B) → a ≡ b → R x y → AllZip R xs ys → AllZip R (if a then x ∷ xs else xs) (if b then y ∷ ys else ys)
+  zip_with true true x y xs ys same one rest = (one, rest)
+  zip_with false false x y xs ys same one rest = rest
+  zip_with true false x y xs ys same one rest = absurd (true≢false same)
+  zip_with false true x y xs ys same one rest = absurd (true≢false (sym same))
+
+  pub zip_filter : (p : A → Bool) (q : B → Bool) → ((x : A) (y : B) → R x y → p x ≡ q y) → (xs : List A) (ys : List B) → AllZip R xs ys → AllZip R (filter p xs) (filter q ys)
+  zip_filter p q same [] [] each = tt
+  zip_filter p q same [] (y ∷ ys) each = absurd each
+  zip_filter p q same (x ∷ xs) [] each = absurd each
+  zip_filter p q same (x ∷ xs) (y ∷ ys) each = zip_with (p x) (q y) x y (filter p xs) (filter q ys) (same x y each.0) each.0 (zip_filter p q same xs ys each.1)
+
 -- of two lists, each test case with the one at its place
 abbrev AreCases : List CaseView → List (Case ScriptView) → Type 0
 AreCases cs ks = AllZip IsCaseOf cs ks
 
-pub zip_with : (a b : Bool) (c : CaseView) (k : Case ScriptView) (cs : List CaseView) (ks : List (Case ScriptView)) → a ≡ b → IsCaseOf c k → AreCases cs ks
-    → AreCases (if a then c ∷ cs else cs) (if b then k ∷ ks else ks)
-zip_with true true c k cs ks same one rest = (one, rest)
-zip_with false false c k cs ks same one rest = rest
-zip_with true false c k cs ks same one rest = absurd (true≢false same)
-zip_with false true c k cs ks same one rest = absurd (true≢false (sym same))
-
 zip_named : (only : List (List ℕ)) (cs : List CaseView) (ks : List (Case ScriptView)) → AreCases cs ks → AreCases (named script_name only cs) (named case_name only ks)
-zip_named only [] [] each = tt
-zip_named only [] (k ∷ ks) each = absurd each
-zip_named only (c ∷ cs) [] each = absurd each
-zip_named only (c ∷ cs) (k ∷ ks) each =
-    zip_with (is_asked only (script_name c)) (is_asked only (case_name k)) c k (named script_name only cs) (named case_name only ks)
-    (ap (is_asked only) (sym each.0.name)) each.0 (zip_named only cs ks each.1)
+zip_named only cs ks each = zip_filter IsCaseOf (λ c. is_asked only (script_name c)) (λ k. is_asked only (case_name k)) (λ c k is. ap (is_asked only) (sym is.name)) cs ks each
 
 zip_placed : (s : ShardView) (place : ℕ) (cs : List CaseView) (ks : List (Case ScriptView)) → AreCases cs ks → AreCases (placed_in_shard s place cs) (placed_in_shard s place ks)
 zip_placed s place [] [] each = tt
 zip_placed s place [] (k ∷ ks) each = absurd each
 zip_placed s place (c ∷ cs) [] each = absurd each
 zip_placed s place (c ∷ cs) (k ∷ ks) each =
-    zip_with (has_place s place) (has_place s place) c k (placed_in_shard s (place + 1) cs) (placed_in_shard s (place + 1) ks) refl each.0 (zip_placed s (place + 1) cs ks each.1)
+    zip_with IsCaseOf (has_place s place) (has_place s place) c k (placed_in_shard s (place + 1) cs) (placed_in_shard s (place + 1) ks) refl each.0 (zip_placed s (place + 1) cs ks each.1)
 
 pub zip_chosen : (only : List (List ℕ)) (shard : Option ShardView) (cs : List CaseView) (ks : List (Case ScriptView)) → AreCases cs ks
     → AreCases (chosen script_name only shard cs) (chosen case_name only shard ks)

@@ -1,7 +1,7 @@
 -- The bytes of evidence.
-use Rattle.std.{proofs.{Common.{ℕ, ◌≡◌, ◌∙◌, ◌<◌, ◌^◌, ◌+◌, ◌==◌, ◌&&◌, Bool, true, false, if◌then◌else◌, All, IsTrue, Some, None, List, [], ◌∷◌, ◌++◌, codes, length, map, refl, sym, subst, arith}, lemmas.{Bool.Decides.nat_tests, List.{Elements.{All-head, All-tail}, Folds.list_all-append}}}, specs.{Char.is_ascii_digit, Fmt.decimal, List.{AllByRecursion, list_all, onto_first}, Str.all_ascii_digits}}
+use Rattle.std.{proofs.{Common.{ℕ, ◌≡◌, ◌∙◌, ◌<◌, ◌^◌, ◌+◌, ◌==◌, ◌&&◌, Bool, true, false, if◌then◌else◌, All, IsTrue, Some, None, List, [], ◌∷◌, ◌++◌, codes, length, map, refl, sym, subst, arith}, lemmas.{Bool.Decides.nat_tests, List.{Elements.{All-head, All-tail}, Folds.list_all-append}}}, specs.{Char.is_ascii_digit, Cmp.Derive.both_true, Fmt.decimal, List.{AllByRecursion, list_all, onto_first}, Str.all_ascii_digits}}
 use Rattle.tc_rules.specs.Prelude.{Verdict, name_of, given, IsBehaviours, IsName, is_name_byte, fault_name, Comp, Entry, Group, Target, Op, Fault, Reply}
-use Rattle.tc_text.{specs.Prelude.{lines_of, is_plain, AreComps, IsGroup, IsOp, IsReply, IsTarget, args_text, group_text, move_text, op_text, reply_text, start_text, target_text}, proofs.Lemmas.{Digits.{both, spelled_digits}, LinesOf.NoLf}}
+use Rattle.tc_text.{specs.Prelude.{lines_of, is_plain, AreComps, EndsLine, IsGroup, IsOp, IsReply, IsTarget, args_text, group_text, move_text, op_text, reply_text, start_text, target_text}, proofs.Lemmas.{Digits.{both, spelled_digits}, LinesOf.{NoLf, first_line}}}
 use Rattle.tc_blocks.specs.{Block.{header_text, kind_text}, HistoryBlock.{end_text, entry_text}, HistoryText.IsEntry, Inside.mark_text, Laws.{IsSaid, is_quiet_byte, is_text_byte}, Line.{line_text, naming_text, said_text}, Text.{AreBlocks, AreEvidence, AreLines, IsHeader, IsLine, all_lines, block_lines, format_of}, declared.{block.Block.Block, header.{Header.Header, Kind.Kind}, line.Line.Line}}
 
 abbrev pub AreQuiet : List ℕ → Type 0
@@ -12,9 +12,7 @@ abbrev pub AreAllPlain : List ℕ → Type 0
 AreAllPlain bs = list_all is_plain bs ≡ true
 
 from_both : (a b : Bool) → a ≡ true → b ≡ true → (a && b) ≡ true
-from_both true true e f = refl
-from_both true false e f = absurd cc
-from_both false b e f = absurd cc
+from_both a b e f = both_true e f
 
 quiet-append : (xs ys : List ℕ) → AreQuiet xs → AreQuiet ys → AreQuiet (xs ++ ys)
 quiet-append xs ys these others = list_all-append is_quiet_byte xs ys ∙ from_both (list_all is_quiet_byte xs) (list_all is_quiet_byte ys) these others
@@ -200,6 +198,21 @@ no_feed b plain = grind (arith, nat_tests)
 pub plain_no_lf : (bs : List ℕ) → AreAllPlain bs → NoLf bs
 plain_no_lf [] all = tt
 plain_no_lf (b ∷ bs) all = let two = both (is_plain b) (list_all is_plain bs) all in (no_feed b two.0, plain_no_lf bs two.1)
+
+-- ---- a text by the parts of its first line
+
+-- the text is these parts and others after them, before which the first line ends
+pub record BeginsWith (text : List ℕ) (parts_and : List ℕ → List ℕ) (others : List (List ℕ)) : Type 0 where
+  pub rest : List ℕ
+  pub behind : List ℕ
+  pub parts : text ≡ parts_and rest
+  pub ends : EndsLine rest behind
+  pub lines : lines_of behind ≡ others
+
+pub begins_with : (text line : List ℕ) (parts_and : List ℕ → List ℕ) (others : List (List ℕ)) → ((rest : List ℕ) → line ++ rest ≡ parts_and rest) → lines_of text ≡ line ∷ others → BeginsWith text parts_and others
+begins_with text line parts_and others same lines =
+    let begins = first_line text line others lines in
+    record { rest = begins.rest; behind = begins.behind; parts = begins.parts ∙ same begins.rest; ends = begins.ends; lines = begins.lines }
 
 -- ---- a text by its lines
 

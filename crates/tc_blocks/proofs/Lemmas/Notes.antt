@@ -1,11 +1,15 @@
 -- The lines of evidence that are no entries, and how they differ from others.
-use Rattle.std.{proofs.{Common.{ℕ, ◌≡◌, ◌≢◌, ◌∙◌, ◌<◌, ◌≤◌, ◌+◌, ◌^◌, ◌&&◌, Bool, true, false, All, IsTrue, inl, inr, List, [], ◌∷◌, ◌++◌, codes, length, take, get_or, ap, sym, refl, append_assoc, arith}, lemmas.{Bool.Decides.nat_tests, List.{Elements.{All-head, All-tail}, take_more}}}, specs.{Char.is_ascii_digit, Fmt.decimal, List.list_all, Str.all_ascii_digits}}
+use Rattle.std.{proofs.{Common.{ℕ, ◌≡◌, ◌≢◌, ◌∙◌, ◌<◌, ◌≤◌, ◌+◌, ◌^◌, Bool, true, false, All, IsTrue, inl, inr, List, [], ◌∷◌, ◌++◌, codes, length, take, get_or, ap, sym, refl, append_assoc, arith}, lemmas.{Bool.Decides.nat_tests, List.{Elements.{All-head, All-tail}, take_more}}}, specs.{Char.is_ascii_digit, Cmp.Derive.both_true, Fmt.decimal, Str.all_ascii_digits}}
 use Rattle.tc_rules.specs.Prelude.{Verdict, Run, name_of, IsName, Entry, Op}
-use Rattle.tc_text.{specs.{Inside.NoLow, Prelude.{lines_of, EndsLine, EndsNumber, is_plain, op_text, reply_text}}, proofs.Lemmas.{Digits.{both, digit_first, no_letter, spelled_digits}, LinesOf.{first_line, line_ended, same_cut}}}
-use Rattle.tc_blocks.{specs.{HistoryBlock.{end_text, entry_text}, HistoryText.IsEntry, Inside.{ArePlain, NoPlainFirst, mark_text}, Line.{line_text, naming_text, said_text}, Text.IsLine, declared.{header.Kind.Kind, line.Line.Line}}, proofs.Lemmas.Bytes.{AreAllPlain, naming_quiet, plain_no_lf, quiet_plain, said_plain}}
+use Rattle.tc_text.{specs.{Inside.NoLow, Prelude.{lines_of, EndsLine, EndsNumber, is_plain, op_text, reply_text}}, proofs.Lemmas.{Digits.{both, digit_first, no_letter, spelled_digits}, LinesOf.{line_ended, same_cut}}}
+use Rattle.tc_blocks.{specs.{HistoryBlock.{end_text, entry_text}, HistoryText.IsEntry, Inside.{ArePlain, NoPlainFirst, mark_text}, Line.{line_text, naming_text, said_text}, Text.IsLine, declared.{header.Kind.Kind, line.Line.Line}}, proofs.Lemmas.Bytes.{AreAllPlain, BeginsWith, begins_with, naming_quiet, plain_no_lf, quiet_plain, said_plain}}
 
 pub first_is : (x y : ℕ) (xs ys : List ℕ) → x ∷ xs ≡ y ∷ ys → x ≡ y
 first_is x y xs ys e = cc
+
+-- a space ends a name
+pub space_ends : (rest : List ℕ) → EndsNumber (32 ∷ rest)
+space_ends rest = λ b after e. let same : ◌≡◌ {A = ℕ} 32 b = first_is 32 b rest after e in omega (arith, same)
 
 others_are : (x y : ℕ) (xs ys : List ℕ) → x ∷ xs ≡ y ∷ ys → xs ≡ ys
 others_are x y xs ys e = cc
@@ -22,26 +26,14 @@ naming_spelled text r1 r2 r3 r4 behind k name word number space named ends fits 
     ∙ line_ended (naming_text k name) r4 behind (λ e. cc) (plain_no_lf (naming_text k name) (quiet_plain (naming_text k name) (naming_quiet k name fits is))) ends
 
 -- the text is that of a name, and a line's end is after it
-pub record BeginsWithNaming (text : List ℕ) (k : ℕ) (name : List ℕ) (others : List (List ℕ)) : Type 0 where
-  pub rest : List ℕ
-  pub behind : List ℕ
-  pub parts : text ≡ codes "behaviour " ++ (decimal k ++ (32 ∷ (name ++ rest)))
-  pub ends : EndsLine rest behind
-  pub lines : lines_of behind ≡ others
-
-pub begins_with_naming : (text : List ℕ) (k : ℕ) (name : List ℕ) (others : List (List ℕ)) → lines_of text ≡ naming_text k name ∷ others → BeginsWithNaming text k name others
-begins_with_naming text k name others lines =
-    let begins = first_line text (naming_text k name) others lines in
-    record { rest = begins.rest; behind = begins.behind; parts = begins.parts ∙ naming_assoc k name begins.rest; ends = begins.ends; lines = begins.lines }
+pub begins_with_naming : (text : List ℕ) (k : ℕ) (name : List ℕ) (others : List (List ℕ)) → lines_of text ≡ naming_text k name ∷ others → BeginsWith text (λ rest. codes "behaviour " ++ (decimal k ++ (32 ∷ (name ++ rest)))) others
+begins_with_naming text k name others lines = begins_with text (naming_text k name) _ others (naming_assoc k name) lines
 
 pub behind_word : (xs ys : List ℕ) → codes "behaviour " ++ xs ≡ codes "behaviour " ++ ys → xs ≡ ys
 behind_word xs ys e = cc
 
-abbrev pair : ℕ → List ℕ → Run × List ℕ
-pair k name = (record { 0 = k }, name)
-
 pub same_naming : (run : Run) (name : List ℕ) (k : ℕ) (that : List ℕ) → run.0 ≡ k → name ≡ that → ◌≡◌ {A = Run × List ℕ} (run, name) (record { 0 = k }, that)
-same_naming run name k that number named = ap (λ (n : ℕ). pair n name) number ∙ ap (λ (x : List ℕ). pair k x) named
+same_naming run name k that number named = rw (number, named) refl
 
 -- ---- what a run says
 
@@ -62,12 +54,7 @@ some_said refused k sentence fits = λ e. let first = digit_first k fits in let 
 
 all_plain : (bs : List ℕ) → ArePlain bs → AreAllPlain bs
 all_plain [] plain = refl
-all_plain (b ∷ bs) plain = joined (is_plain b) (list_all is_plain bs) plain.0 (all_plain bs plain.1)
-  where
-    joined : (a c : Bool) → a ≡ true → c ≡ true → (a && c) ≡ true
-    joined true true e f = refl
-    joined true false e f = absurd cc
-    joined false c e f = absurd cc
+all_plain (b ∷ bs) plain = both_true plain.0 (all_plain bs plain.1)
 
 pub said_spelled : (text r1 r2 r3 behind : List ℕ) (refused : Bool) (k : ℕ) (sentence : List ℕ) → text ≡ decimal k ++ r1 → r1 ≡ mark_text refused ++ r2 → r2 ≡ sentence ++ r3 → EndsLine r3 behind → k < 2 ^ 32 → ArePlain sentence →
     lines_of text ≡ said_text refused k sentence ∷ lines_of behind
@@ -76,17 +63,8 @@ said_spelled text r1 r2 r3 behind refused k sentence number mark said ends fits 
     ∙ line_ended (said_text refused k sentence) r3 behind (some_said refused k sentence fits) (plain_no_lf (said_text refused k sentence) (said_plain refused k sentence fits (all_plain sentence plain))) ends
 
 -- the text is that of what a run says, and a line's end is after it
-pub record BeginsWithSaid (text : List ℕ) (refused : Bool) (k : ℕ) (sentence : List ℕ) (others : List (List ℕ)) : Type 0 where
-  pub rest : List ℕ
-  pub behind : List ℕ
-  pub parts : text ≡ decimal k ++ (mark_text refused ++ (sentence ++ rest))
-  pub ends : EndsLine rest behind
-  pub lines : lines_of behind ≡ others
-
-pub begins_with_said : (text : List ℕ) (refused : Bool) (k : ℕ) (sentence : List ℕ) (others : List (List ℕ)) → lines_of text ≡ said_text refused k sentence ∷ others → BeginsWithSaid text refused k sentence others
-begins_with_said text refused k sentence others lines =
-    let begins = first_line text (said_text refused k sentence) others lines in
-    record { rest = begins.rest; behind = begins.behind; parts = begins.parts ∙ said_assoc refused k sentence begins.rest; ends = begins.ends; lines = begins.lines }
+pub begins_with_said : (text : List ℕ) (refused : Bool) (k : ℕ) (sentence : List ℕ) (others : List (List ℕ)) → lines_of text ≡ said_text refused k sentence ∷ others → BeginsWith text (λ rest. decimal k ++ (mark_text refused ++ (sentence ++ rest))) others
+begins_with_said text refused k sentence others lines = begins_with text (said_text refused k sentence) _ others (said_assoc refused k sentence) lines
 
 -- ---- where the bytes from 32 to 126 end
 
@@ -133,9 +111,6 @@ behind_numbers : (n m : ℕ) (xs ys : List ℕ) → n < 2 ^ 32 → m < 2 ^ 32 �
 behind_numbers n m xs ys one two e =
     let cut = same_cut (decimal n) (32 ∷ xs) (decimal m) (32 ∷ ys) (digits_high (decimal n) (spelled_digits n one).0) (space_ends xs) (digits_high (decimal m) (spelled_digits m two).0) (space_ends ys) e in
     let tail = cut.1 in cc
-  where
-    space_ends : (rest : List ℕ) → EndsNumber (32 ∷ rest)
-    space_ends rest = λ b after e. let same : ◌≡◌ {A = ℕ} 32 b = first_is 32 b rest after e in omega (arith, same)
 
 -- an operation begins with a letter
 op_letter : (op : Op) (rest : List ℕ) → (b : ℕ) × ((more : List ℕ) × (op_text op ++ rest ≡ b ∷ more) × (97 ≤ b))

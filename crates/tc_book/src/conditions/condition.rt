@@ -2,7 +2,7 @@
 ghost use Rattle.std.specs.{Prelude.{◌≡◌, ◌+◌, IsTrue}, Sync.Mutex.mutex_guard_value};
 ghost use Rattle.tc_book.specs.Inside.{goes_on, lacks};
 
-use crate::logged_book::LoggedBook;
+use crate::book::Book;
 use crate::told::Told;
 use crate::until::{Lack, Until};
 use std::sync::{Condvar, MutexGuard, Wait};
@@ -30,10 +30,10 @@ impl Condition {
     pub(crate) fn wait<'b, R: Wait>(
         &self,
         rt: &R,
-        book: MutexGuard<'b, LoggedBook>,
+        book: MutexGuard<'b, Book>,
         until: Until,
-    ) -> MutexGuard<'b, LoggedBook>
-        ensures { IsTrue (goes_on (mutex_guard_value result).book self.now.run until) }
+    ) -> MutexGuard<'b, Book>
+        ensures { IsTrue (goes_on (mutex_guard_value result) self.now.run until) }
     {
         let run = self.run;
         self.changed
@@ -41,15 +41,15 @@ impl Condition {
     }
 
     /// Waits for ever, since by the book in this hold the run lacks what it would continue with, and that can't come.
-    pub(crate) fn stay<R: Wait>(&self, rt: &R, book: MutexGuard<'_, LoggedBook>, lack: Lack)
-        requires { IsTrue (lacks (mutex_guard_value book).book self.now.run lack) }
+    pub(crate) fn stay<R: Wait>(&self, rt: &R, book: MutexGuard<'_, Book>, lack: Lack)
+        requires { IsTrue (lacks (mutex_guard_value book) self.now.run lack) }
         ensures { ⊥ }
     {
         self.changed.wait_while(rt, book, |_| true);
     }
 
     /// Wakes the run, which is the next to look at, unless it is none to wake.
-    pub(super) fn tell(&self, book: &LoggedBook, told: Told) -> Told
+    pub(super) fn tell(&self, book: &Book, told: Told) -> Told
         requires { told.runs ≡ self.now.run.0 }
         ensures { result.runs ≡ told.runs + 1 }
     {

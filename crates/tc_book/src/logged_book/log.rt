@@ -105,32 +105,32 @@ impl Log {
         self.ended
     }
 
-    /// Makes the places for one more call, its Wake and the Finish.
-    pub(crate) fn make_room(&mut self) -> Result<(), NoMemory>
+    /// Makes the places for that many more entries.
+    pub(crate) fn make_room(&mut self, more: usize) -> Result<(), NoMemory>
         ensures started { self.new.started ≡ self.old.started }
         ensures entries { self.new.entries ≡ self.old.entries }
-        ensures room { OnOk result (3 ≤ self.new.room) }
+        ensures room { OnOk result (more ≤ self.new.room) }
         ensures no_less { self.old.room ≤ self.new.room }
         ensures refused { OnErr result (self.new ≡ self.old) }
     {
-        self.entries.reserve(3)?;
+        self.entries.reserve(more)?;
         Ok(())
     }
 
-    /// Adds a copy of an entry of the run in its place, which is none of a verdict call: only the book does, which has the entry.
-    pub(super) fn add(&mut self, entry: &Entry)
-        requires other { is_verdict_call entry.now.op ≡ false }
+    /// Adds an entry of the run in its place, which is none of a verdict call.
+    pub(crate) fn add(&mut self, op: Op, reply: Reply)
+        requires other { is_verdict_call op ≡ false }
         requires room { 1 ≤ self.old.room }
         ensures started { self.new.started ≡ self.old.started }
-        ensures entries { self.new.entries ≡ self.old.entries ++ entry.now ∷ [] }
+        ensures entries { self.new.entries ≡ with_own self.old op reply }
         ensures room { self.new.room + 1 ≡ self.old.room }
     {
-        self.ended = add_to(
-            &mut self.entries,
-            self.started.comp,
-            self.ended,
-            entry.copy(),
-        );
+        let entry = Entry {
+            caller: self.started.run,
+            op,
+            reply,
+        };
+        self.ended = add_to(&mut self.entries, self.started.comp, self.ended, entry);
     }
 
     /// Sets a verdict by one step of the run's hand, adds the entry in its place, and returns its reply.

@@ -3,7 +3,7 @@ use Rattle.std.{proofs.{Common.{ℕ, zero, suc, ◌≡◌, ◌≤◌, ◌∷◌,
 use Rattle.tc_rules.specs.{Prelude.Verdict, declared.refusal.CaseError.CaseError}
 use Rattle.tc_book.specs.Prelude.{PassState}
 use Rattle.tc_exec.specs.declared.{job.Back.Back, test_case.Case.Case}
-use Rattle.tc_report.{specs.{Inside.IsEndedAt, declared.{kept.Kept.Kept, results.{CampaignEnd.CampaignEnd, Finished.Finished}}, Prelude.{Keeps, AreTaken, IsMet}}, proofs.Lemmas.Keeping.{are_kept, never_ended}}
+use Rattle.tc_report.{specs.{Inside.IsEndedAt, declared.results.{CampaignEnd.CampaignEnd, Finished.Finished, Kept.Kept}, Prelude.{Keeps, AreTaken, IsMet}}, proofs.Lemmas.Keeping.{are_kept, never_ended}}
 use Rattle.tc_campaign.specs.{Campaign.{AreBack, AreFinished, IsCalled, IsCutShort, IsEnding, IsObserved, IsRefusal, IsRunTo}, Inside.{HasBehaviours, IsUnrun}, Outline.{Outline, outline_of}}
 
 take_short : {A : Type 0} (n : ℕ) (xs : List A) → length (take n xs) ≤ length xs

@@ -86,7 +86,7 @@ IsFull met = met.limit ≤ length met.states.items
 pub record AreKept (aim : Verdict) (scripts : List ScriptView) (met : Met) (found : Findings) : Type 0 where
   pub few : length met.states.items ≤ met.limit
   pub each : All (λ t. IsState aim scripts t) met.states.items
-  pub keyed : AreKeyed (key_of (length scripts)) met
+  pub keyed : AreKeyed (key_of false (length scripts)) met
   pub counted : All (λ t. Covers found.reached.items (past_of t)) met.states.items
 
 -- a case of as many behaviours and of the same entries

@@ -22,62 +22,47 @@ comp_code (Some c) = c.0 + 1
 abbrev pub number_of : Comp → ℕ
 number_of c = c.0
 
--- what a run can still call depends on this: its component, and if it continues what it has called and what is bound
-abbrev pub run_key : Bool → CourseState → List ℕ
-run_key true s = comp_code s.comp ∷ 1 ∷ s.called ∷ length s.bound ∷ map number_of s.bound
-run_key false s = comp_code s.comp ∷ 0 ∷ []
-
--- the same of run b
-abbrev pub run_key_of : List Entry → ℕ → List ℕ
-run_key_of past b = run_key (is_active past b) (stand past b)
-
--- what component c does, and its kind
-abbrev pub comp_key : List Entry → ℕ → List ℕ
-comp_key past c = phase_code (phase_if_any past c) ∷ (if is_alive_type past c then 1 else 0) ∷ []
-
--- the key of what n runs have done: the verdict, the components, and the runs
-unfoldable pub key_of : ℕ → List Entry → List ℕ
-key_of n past =
-    level_of (overall past) ∷ components past
-    ∷ (flat_map (comp_key past) (range_with_len 0 (components past)) ++ flat_map (run_key_of past) (range_with_len 0 n))
-
--- the same is known after both, of each run that continues and of each local verdict
-pub record IsTwin (q p : List Entry) : Type 0 where
-  pub alike : IsAlike q p
-  pub locals : (c : ℕ) → local q c ≡ local p c
-  pub stands : (b : ℕ) → is_active q b ≡ true → stand q b ≡ stand p b
-
--- ---- keys
-
--- a local verdict, if there is one, as a number
-abbrev pub local_code : Option Verdict → ℕ
-local_code None = 0
-local_code (Some v) = level_of v + 1
-
--- the local verdict of component c as a number
-abbrev pub local_key : List Entry → ℕ → List ℕ
-local_key past c = local_code (local_if_any past c) ∷ []
-
 -- what is waited for, as two numbers
 abbrev pub target_key : Bool → Target → List ℕ
 target_key killed (Target.One c) = (if killed then 2 else 1) ∷ c.0 ∷ []
 target_key killed Target.Any = (if killed then 4 else 3) ∷ 0 ∷ []
 target_key killed Target.All = (if killed then 6 else 5) ∷ 0 ∷ []
 
--- the Wake to come of a run that continues, if there is one
-abbrev pub wake_key : Bool → Option Op → List ℕ
-wake_key true (Some (Op.Wake killed target)) = target_key killed target
-wake_key _ _ = 0 ∷ 0 ∷ []
+-- the Wake to come, if there is one
+abbrev pub wake_key : Option Op → List ℕ
+wake_key (Some (Op.Wake killed target)) = target_key killed target
+wake_key _ = 0 ∷ 0 ∷ []
+
+-- what a run can still call depends on this: its component, and if it continues what it has called, what is bound, and if waits
+-- count the Wake to come
+abbrev pub run_key : Bool → Bool → CourseState → List ℕ
+run_key waits true s = comp_code s.comp ∷ 1 ∷ s.called ∷ length s.bound ∷ (map number_of s.bound ++ (if waits then wake_key s.wake else []))
+run_key waits false s = comp_code s.comp ∷ 0 ∷ []
 
 -- the same of run b
-abbrev pub wake_key_of : List Entry → ℕ → List ℕ
-wake_key_of past b = wake_key (is_active past b) (stand past b).wake
+abbrev pub run_key_of : Bool → List Entry → ℕ → List ℕ
+run_key_of waits past b = run_key waits (is_active past b) (stand past b)
 
--- the key of what n runs have done: the local verdicts, the waits, and all else
-unfoldable pub twin_key : ℕ → List Entry → List ℕ
-twin_key n past =
-    components past
-    ∷ (flat_map (local_key past) (range_with_len 0 (components past)) ++ (flat_map (wake_key_of past) (range_with_len 0 n) ++ key_of n past))
+-- a local verdict, if there is one, as a number
+abbrev pub local_code : Option Verdict → ℕ
+local_code None = 0
+local_code (Some v) = level_of v + 1
+
+-- what component c does, its kind, and if those count its local verdict
+abbrev pub comp_key : Bool → List Entry → ℕ → List ℕ
+comp_key locals past c = phase_code (phase_if_any past c) ∷ (if is_alive_type past c then 1 else 0) ∷ (if locals then local_code (local_if_any past c) ∷ [] else [])
+
+-- The key of what n runs have done: the verdict, the components, and the runs. Local verdicts and waits count, or not.
+unfoldable pub key_of : Bool → ℕ → List Entry → List ℕ
+key_of all n past =
+    level_of (overall past) ∷ components past
+    ∷ (flat_map (comp_key all past) (range_with_len 0 (components past)) ++ flat_map (run_key_of all past) (range_with_len 0 n))
+
+-- the same is known after both, of each run that continues and of each local verdict
+pub record IsTwin (q p : List Entry) : Type 0 where
+  pub alike : IsAlike q p
+  pub locals : (c : ℕ) → local q c ≡ local p c
+  pub stands : (b : ℕ) → is_active q b ≡ true → stand q b ≡ stand p b
 
 -- ---- what a search keeps
 
@@ -98,7 +83,7 @@ IsKnown of states r = (i : ℕ) × (t : Case) × (slice_get states i ≡ Some t)
 pub record AreGoing (scripts : List ScriptView) (met : Met) : Type 0 where
   pub few : length met.states.items ≤ met.limit
   pub each : All (IsGoing scripts) met.states.items
-  pub keyed : AreKeyed (twin_key (length scripts)) met
+  pub keyed : AreKeyed (key_of true (length scripts)) met
 
 -- what is found stays so
 abbrev pub IsMore : List Bool → List Bool → Type 0

@@ -1,6 +1,6 @@
 -- The test cases that an observer was given, one after another, and what one that keeps them has then.
 use Rattle.std.{proofs.{Common.{ℕ, ◌≡◌, ◌∙◌, ◌≤◌, ◌<◌, ◌+◌, Option, ◌++◌, ◌∷◌, [], true, false, List, length, arith, sym, ap, append_assoc, Bool, refl, subst}, lemmas.List.{append-nil, length-append}}, specs.{Global.Vec, Vec.{vec_capacity, vec_len}}}
-use Rattle.tc_report.specs.{Inside.IsEndedAt, Observers.{AreTaken, Keeps, KeepsTimes}, declared.{kept.Kept.Kept, results.Finished.Finished}}
+use Rattle.tc_report.specs.{Inside.IsEndedAt, Observers.{AreTaken, Keeps, KeepsTimes}, declared.results.{Finished.Finished, Kept.Kept}}
 
 -- if there is room for them, those that it was given are kept after the others, and the room stays
 all_kept : (fs : List Finished) (before after : Kept) → AreTaken Keeps fs before after → length before.finished.items + length fs ≤ vec_capacity before.finished

@@ -2,7 +2,7 @@
 use Rattle.std.{proofs.{Common.{ℕ, ◌≡◌, ◌∙◌, Bool, List, [], ◌∷◌, ◌++◌, Option, Some, None, map, sym, ap, subst, append_assoc}, lemmas.List.append-nil}, specs.{Prelude.IsSomeAnd, Io.KnownBytes.Appends}}
 use Rattle.tc_rules.specs.Prelude.{worse, Verdict}
 use Rattle.tc_stream.specs.Prelude.{AppendsPrefix}
-use Rattle.tc_report.{specs.{Inside.{IsEndedAt, form_text, text_so_far}, Live.{IsWritten, Writes, closing_text, opening_text, part_text}, Observers.AreTaken, Output.LeavesPrefix, Report.tally_of_cases, Status.{ending_status, results_status, worst_of}, Summary.case_summary, declared.{fault.OutFault.OutFault, live.LiveWriter.LiveWriter, live_form.LiveForm.LiveForm, results.{CampaignEnd.CampaignEnd, Finished.Finished}}}, proofs.{Overalls.worst_more, Writing.{appends_both, left_is_prefix, prefix_behind, prefix_longer, so_far_more, whole_text}}}
+use Rattle.tc_report.{specs.{Inside.{IsEndedAt, form_text, text_so_far}, Live.{IsWritten, Writes, closing_text, opening_text, part_text}, Observers.AreTaken, Output.LeavesPrefix, Report.tally_of_cases, Status.{ending_status, results_status, worst_of}, Summary.case_summary, declared.{fault.OutFault.OutFault, live.{LiveForm.LiveForm, LiveWriter.LiveWriter}, results.{CampaignEnd.CampaignEnd, Finished.Finished}}}, proofs.{Overalls.worst_more, Writing.{appends_both, left_is_prefix, prefix_behind, prefix_longer, so_far_more, whole_text}}}
 
 -- a prefix of what comes up to some test case is one of the whole text
 cut_left : (form : LiveForm) (start after : Option (List ℕ)) (fs : List Finished) (ending : CampaignEnd) → AppendsPrefix start after (text_so_far form fs)

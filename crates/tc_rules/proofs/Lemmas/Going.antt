@@ -1,7 +1,7 @@
 -- Which runs continue after one more entry.
 use Rattle.std.proofs.Common.{ℕ, ◌≡◌, ◌<◌, ◌==◌, ◌&&◌, ◌||◌, not, nat_le, if◌then◌else◌, Bool, true, false, Option, Some, None, is_some, List, [], ◌∷◌, refl, ap, sym, ◌∙◌}
 use Rattle.tc_entry.specs.{Prelude.{Run, is_ended, is_fault, is_ok}, declared.comp.Comp.Comp, declared.entry.Entry.Entry, declared.op.Op.Op, declared.phase.Phase.Phase, declared.reply.Fault.Fault, declared.reply.Reply.Reply}
-use Rattle.tc_rules.{specs.{Answers.{answer, is_active, is_run_of}, Faults.start_fault, History.{comp_of, exists, halts, is_alive_type, is_comp, is_finish, is_kill_of, is_stop_case, is_stop_of, kills, started_on}, Inside.Words.{first_some, starts_on, starts_run}, Inside.Laws.{halting_op, may_halt}, Legal.IsLegal, Phases.{last_run, phase, start_in, was_halted, was_killed}, Status.{is_killed, is_running}}, proofs.{Lemmas.Deciding.{and_no, equal_if, no_finish, no_kill, no_stop, no_stop_case, ok_is, self_equal, test_by}, Lemmas.Keeping.kill_halts, Lemmas.Kept.inactive, Lemmas.Over.on_existing, Lemmas.Sound.{IsPlain, no_special, plain_if, runs_on, starts, starts_fresh}, Lemmas.Steps.phase_by}}
+use Rattle.tc_rules.{specs.{Answers.{answer, is_active, is_run_of}, Faults.start_fault, History.{comp_of, exists, halts, is_alive_type, is_comp, is_finish, is_kill_of, is_stop_case, is_stop_of, kills, started_on}, Inside.Words.{first_some, starts_on, starts_run}, Inside.Laws.{halting_op, may_halt}, Legal.IsLegal, Phases.{last_run, phase, start_in, was_halted, was_killed}, Status.{is_killed, is_running}}, proofs.{Lemmas.Deciding.{and_no, and_yes, equal_if, no_finish, no_kill, no_stop, no_stop_case, ok_is, self_equal, test_by}, Lemmas.Keeping.kill_halts, Lemmas.Kept.inactive, Lemmas.Over.on_existing, Lemmas.Sound.{IsPlain, no_special, plain_if, runs_on, starts, starts_fresh}, Lemmas.Steps.phase_by}}
 
 -- this is run b
 abbrev is_the_run : ℕ → Option Run → Bool
@@ -16,16 +16,12 @@ run_of_phase b false (Some run) true true = refl
 run_of_phase b false (Some run) true false = refl
 run_of_phase b false (Some run) false a = refl
 
-and_true : (a : Bool) → (a && true) ≡ a
-and_true true = refl
-and_true false = refl
-
 goes_by : (x k h was r : Bool) → (x ≡ true → h ≡ true) → (not (x || k) && (not (h || was) && r)) ≡ ((not k && (not was && r)) && not h)
 goes_by true k true was r f = sym (and_no (not k && (not was && r)))
 goes_by true k false was r f = let e = f refl in cc
 goes_by false true true was r f = refl
 goes_by false false true was r f = sym (and_no (not was && r))
-goes_by false k false was r f = sym (and_true (not k && (not was && r)))
+goes_by false k false was r f = sym (and_yes (not k && (not was && r)))
 
 active_is : (past : List Entry) (b : ℕ) (c : Comp) → comp_of past b ≡ Some c → is_active past b ≡ is_run_of b (phase past c.0)
 unfolding is_active

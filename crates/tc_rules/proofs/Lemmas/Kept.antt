@@ -1,7 +1,7 @@
 -- What follows from what the table keeps.
 use Rattle.std.{proofs.{Common.{ℕ, ◌≡◌, ◌<◌, ◌≤◌, ◌&&◌, ◌||◌, not, Bool, true, false, Some, None, is_some, nat_lt, List, [], ◌∷◌, length, map, drop, get_or, refl, ap, sym, ◌∙◌, arith}, lemmas.Bool.Decides.nat_tests, lemmas.List.Folds.list_all-map}, specs.List.{list_any, list_all}}
 use Rattle.tc_entry.specs.{declared.comp.Comp.Comp, declared.entry.Entry.Entry, declared.op.Target.Target, Prelude.worst}
-use Rattle.tc_rules.{specs.{Answers.{is_active, is_run_of}, Faults.{all_exist, components, target_names}, History.{comp_of, comps, exists, is_alive_type, is_in, ptcs}, Inside.Kept.{IsKept, run_of, state_of}, Inside.States.{all_alive, all_below, all_killed, any_alive, any_done, any_killed, any_running, none_lapsed, none_running, worst_local}, Local.{local, local_if_any, overall}, Phases.{is_excused, last_run, phase, phase_if_any}, Status.{alive, done, is_done, is_killed, is_running, killed, running}, Waiting.waiting, declared.awaited.Awaited.Awaited, declared.component_state.ComponentState.ComponentState, declared.run_state.RunState.RunState}, proofs.Lemmas.Numbers.{length-numbers_from, is_in-numbers_from, map-numbers_from, drop-one-map}}
+use Rattle.tc_rules.{specs.{Answers.{is_active, is_run_of}, Faults.{all_exist, components, target_names}, History.{comp_of, comps, exists, is_alive_type, is_in, ptcs}, Inside.Kept.{IsKept, run_of, state_of}, Inside.States.{all_below, all_killed, any_done, any_killed, none_lapsed, none_running, worst_local}, Local.{local, local_if_any, overall}, Phases.{is_excused, last_run, phase, phase_if_any}, Status.{alive, done, is_done, is_killed, is_running, killed, running}, Waiting.waiting, declared.awaited.Awaited.Awaited, declared.component_state.ComponentState.ComponentState, declared.run_state.RunState.RunState}, proofs.Lemmas.{Deciding.{and_left, and_yes}, Numbers.{length-numbers_from, is_in-numbers_from, map-numbers_from, drop-one-map}}}
 
 map-map : {A B C : Type 0} (g : B → C) (f : A → B) (xs : List A) → map g (map f xs) ≡ map (λ x. g (f x)) xs
 map-map g f [] = refl
@@ -11,7 +11,7 @@ list_any-map : {A B : Type 0} (g : B → Bool) (f : A → B) (xs : List A) → l
 list_any-map g f [] = refl
 list_any-map g f (x ∷ xs) = ap (λ b. g (f x) || b) (list_any-map g f xs)
 
-list_all-same : {A : Type 0} (f g : A → Bool) (xs : List A) → ((x : A) → f x ≡ g x) → list_all f xs ≡ list_all g xs
+pub list_all-same : {A : Type 0} (f g : A → Bool) (xs : List A) → ((x : A) → f x ≡ g x) → list_all f xs ≡ list_all g xs
 list_all-same f g [] h = refl
 list_all-same f g (x ∷ xs) h = rw (h x, list_all-same f g xs h)
 
@@ -19,9 +19,30 @@ one-true : (b : Bool) → (b && true) ≡ true → b ≡ true
 one-true true h = refl
 one-true false h = h
 
-and-true : (b : Bool) → (b && true) ≡ b
-and-true true = refl
-and-true false = refl
+-- one passes if not all fail, and fails if not all pass; all fail if not one passes
+any_not_all : {A : Type 0} (g : A → Bool) (xs : List A) → list_any g xs ≡ not (list_all (λ x. not (g x)) xs)
+any_not_all g [] = refl
+any_not_all g (x ∷ xs) = by_test (g x) (any_not_all g xs)
+  where
+    by_test : (t : Bool) → list_any g xs ≡ not (list_all (λ x. not (g x)) xs) → (t || list_any g xs) ≡ not (not t && list_all (λ x. not (g x)) xs)
+    by_test true rest = refl
+    by_test false rest = rest
+
+fails_not_all : {A : Type 0} (g : A → Bool) (xs : List A) → list_any (λ x. not (g x)) xs ≡ not (list_all g xs)
+fails_not_all g [] = refl
+fails_not_all g (x ∷ xs) = by_test (g x) (fails_not_all g xs)
+  where
+    by_test : (t : Bool) → list_any (λ x. not (g x)) xs ≡ not (list_all g xs) → (not t || list_any (λ x. not (g x)) xs) ≡ not (t && list_all g xs)
+    by_test true rest = rest
+    by_test false rest = refl
+
+fail_all : {A : Type 0} (g : A → Bool) (xs : List A) → list_all (λ x. not (g x)) xs ≡ not (list_any g xs)
+fail_all g [] = refl
+fail_all g (x ∷ xs) = by_test (g x) (fail_all g xs)
+  where
+    by_test : (t : Bool) → list_all (λ x. not (g x)) xs ≡ not (list_any g xs) → (not t && list_all (λ x. not (g x)) xs) ≡ not (t || list_any g xs)
+    by_test true rest = refl
+    by_test false rest = rest
 
 masked : (a p x : Bool) → (not a || p || x) ≡ (not a || p || (a && x))
 masked true p x = refl
@@ -97,9 +118,9 @@ module _ {n : ℕ} {past : List Entry} {states : List ComponentState} {runs : Li
   unfolding killed
   killed_one c d kept h = rw (kept.each_state c.0 d h)
 
-  pub running_any : IsKept n past states runs over → running past Target.Any ≡ any_running (drop 1 states)
-  unfolding running any_running
-  running_any kept = any_kept (λ s. is_running s.phase) kept
+  pub running_any : IsKept n past states runs over → running past Target.Any ≡ not (none_running (drop 1 states))
+  unfolding running none_running
+  running_any kept = any_kept (λ s. is_running s.phase) kept ∙ any_not_all (λ s. is_running s.phase) (drop 1 states)
 
   pub running_all : IsKept n past states runs over → running past Target.All ≡ none_lapsed (drop 1 states)
   unfolding running none_lapsed
@@ -107,13 +128,13 @@ module _ {n : ℕ} {past : List Entry} {states : List ComponentState} {runs : Li
       list_all-same _ _ (ptcs past) (λ c. masked (is_some (last_run past c)) (is_running (phase past c)) (is_excused past c))
       ∙ all_kept (λ s. not (is_some s.last) || is_running s.phase || s.excused) kept
 
-  pub alive_any : IsKept n past states runs over → alive past Target.Any ≡ any_alive (drop 1 states)
-  unfolding alive any_alive
-  alive_any kept = any_kept (λ s. not (is_killed s.phase)) kept
+  pub alive_any : IsKept n past states runs over → alive past Target.Any ≡ not (all_killed (drop 1 states))
+  unfolding alive all_killed
+  alive_any kept = any_kept (λ s. not (is_killed s.phase)) kept ∙ fails_not_all (λ s. is_killed s.phase) (drop 1 states)
 
-  pub alive_all : IsKept n past states runs over → alive past Target.All ≡ all_alive (drop 1 states)
-  unfolding alive all_alive
-  alive_all kept = all_kept (λ s. not (is_killed s.phase)) kept
+  pub alive_all : IsKept n past states runs over → alive past Target.All ≡ not (any_killed (drop 1 states))
+  unfolding alive any_killed
+  alive_all kept = all_kept (λ s. not (is_killed s.phase)) kept ∙ fail_all (λ s. is_killed s.phase) (drop 1 states)
 
   pub done_any : IsKept n past states runs over → done past Target.Any ≡ any_done (drop 1 states)
   unfolding done any_done
@@ -175,7 +196,7 @@ inactive past b none = rw none
 
 pub all_exist_one : (past : List Entry) (c : Comp) → all_exist past (c ∷ []) ≡ exists past c.0
 unfolding all_exist
-all_exist_one past c = and-true (exists past c.0)
+all_exist_one past c = and_yes (exists past c.0)
 
 pub all_exist_none : (past : List Entry) → all_exist past [] ≡ true
 unfolding all_exist
@@ -187,7 +208,7 @@ all_exist_more past c cs = refl
 
 pub below_one : (c : Comp) (count : ℕ) → all_below (c ∷ []) count ≡ nat_lt c.0 count
 unfolding all_below
-below_one c count = and-true (nat_lt c.0 count)
+below_one c count = and_yes (nat_lt c.0 count)
 
 pub below_none : (count : ℕ) → all_below [] count ≡ true
 unfolding all_below
@@ -203,11 +224,7 @@ is_below c count h = let e : nat_lt c.0 count ≡ true = one-true _ h in grind (
 
 pub first_below : (c : Comp) (cs : List Comp) (count : ℕ) → all_below (c ∷ cs) count ≡ true → c.0 < count
 unfolding all_below
-first_below c cs count h = let e : nat_lt c.0 count ≡ true = left (nat_lt c.0 count) _ h in grind (arith, nat_tests)
-  where
-    left : (a b : Bool) → (a && b) ≡ true → a ≡ true
-    left true b h = refl
-    left false b h = absurd cc
+first_below c cs count h = let e : nat_lt c.0 count ≡ true = and_left (nat_lt c.0 count) _ h in grind (arith, nat_tests)
 
 module _ {n : ℕ} {past : List Entry} {states : List ComponentState} {runs : List RunState} {over : Bool} where
   -- what a run waits for exists

@@ -1,5 +1,5 @@
 -- The components of a legal history are numbered from 0 on.
-use Rattle.std.{proofs.{Common.{ℕ, zero, suc, ◌≡◌, ◌+◌, ◌<◌, ◌&&◌, nat_lt, nat_le, true, false, Option, Some, None, List, [], ◌∷◌, ◌++◌, length, map, refl, ap, sym, ◌∙◌, arith}, lemmas.Bool.Decides.nat_tests, lemmas.List.FromFn.{length-range_with_len, map-range_with_len_more}}, specs.List.range_with_len}
+use Rattle.std.{proofs.{Common.{ℕ, zero, suc, ◌≡◌, ◌+◌, ◌<◌, ◌&&◌, nat_lt, nat_le, false, Option, Some, None, List, [], ◌∷◌, ◌++◌, length, map, refl, ap, sym, ◌∙◌, arith}, lemmas.{Bool.{Decides.nat_tests, lt-ltb}, List.FromFn.{length-range_with_len, map-range_with_len_more}}}, specs.List.range_with_len}
 use Rattle.tc_entry.specs.declared.{comp.Comp.Comp, entry.Entry.Entry}
 use Rattle.tc_rules.{specs.{Faults.components, History.{add_new, comps, created, exists, is_in}, Legal.IsLegal, Local.{local, local_if_any}}, proofs.Lemmas.Sound.next}
 
@@ -38,13 +38,13 @@ pub comps_numbered : (n : ℕ) (past : List Entry) → IsLegal n past → comps 
 unfolding components
 comps_numbered n past legal = numbered n past legal
 
-there : (n : ℕ) (past : List Entry) (c : ℕ) → IsLegal n past → c < components past → exists past c ≡ true
+pub exists_below : (n : ℕ) (past : List Entry) (c : ℕ) → IsLegal n past → exists past c ≡ nat_lt c (components past)
 unfolding exists
-there n past c legal below = rw (comps_numbered n past legal) (is_in-range c 0 (components past) ∙ grind (arith, nat_tests))
+exists_below n past c legal = rw (comps_numbered n past legal) (is_in-range c 0 (components past) ∙ grind (arith, nat_tests))
 
 pub local_there : (n : ℕ) (past : List Entry) (c : ℕ) → IsLegal n past → c < components past → local_if_any past c ≡ Some (local past c)
 unfolding local_if_any
-local_there n past c legal below = rw (there n past c legal below)
+local_there n past c legal below = rw (exists_below n past c legal ∙ lt-ltb c (components past) below)
 
 pub local_more : (past : List Entry) (c : ℕ) → map (local past) (range_with_len 0 (c + 1)) ≡ map (local past) (range_with_len 0 c) ++ local past c ∷ []
 local_more past c = map-range_with_len_more (local past) 0 c c (omega arith)

@@ -1,7 +1,7 @@
 -- After an entry that ends the case every component is killed, and every call is replied Ended.
-use Rattle.std.{proofs.Common.{ℕ, ◌≡◌, ◌&&◌, ◌||◌, ◌==◌, not, if◌then◌else◌, Bool, true, false, Option, Some, None, List, [], ◌∷◌, ◌++◌, refl, ap, sym, ◌∙◌}, specs.Bool.OnTrue}
+use Rattle.std.{proofs.Common.{ℕ, ◌≡◌, ◌&&◌, ◌||◌, ◌==◌, not, if◌then◌else◌, Bool, true, false, Option, Some, None, List, [], ◌∷◌, ◌++◌, refl, ap, sym, ◌∙◌}, specs.{Bool.OnTrue, List.list_all}}
 use Rattle.tc_entry.specs.{Prelude.{Run, is_ended, is_ok}, declared.comp.Comp.Comp, declared.entry.Entry.Entry, declared.op.Op.Op, declared.phase.Phase.Phase, declared.reply.Reply.Reply}
-use Rattle.tc_rules.{specs.{Answers.{answer, is_active}, History.{add_new, comp_of, comps, created, ends_case, exists, is_in, is_kill_of, is_over, kills}, Inside.Words.{first_some, starts_run}, Inside.Kept.IsKept, Legal.{IsAllOver, IsLegal}, Phases.{phase, was_killed}, Standing.{Kept, StandsFor}, declared.component_state.ComponentState.ComponentState, declared.run_state.RunState.RunState}, proofs.Lemmas.Sound.runs_on}
+use Rattle.tc_rules.{specs.{Answers.{answer, is_active}, Faults.all_exist, History.{add_new, comp_of, comps, created, ends_case, exists, is_in, is_kill_of, is_over, kills}, Inside.Words.{first_some, starts_run}, Inside.Kept.IsKept, Legal.{IsAllOver, IsLegal}, Phases.{phase, was_killed}, Standing.{Kept, StandsFor}, declared.component_state.ComponentState.ComponentState, declared.run_state.RunState.RunState}, proofs.Lemmas.{Deciding.{and_left, and_right}, Sound.runs_on}}
 
 opening_exists : (b : ℕ) (c : Comp) → comp_of [] b ≡ Some c → exists [] c.0 ≡ true
 unfolding exists
@@ -30,6 +30,13 @@ in_added (Some d) c ns h = by_test (is_in d.0 ns)
 pub stays : (past : List Entry) (e : Entry) (c : ℕ) → exists past c ≡ true → exists (e ∷ past) c ≡ true
 unfolding exists
 stays past e c h = in_added (created e.op e.reply) c (comps past) h
+
+pub still_exist : (past : List Entry) (e : Entry) (cs : List Comp) → all_exist past cs ≡ true → all_exist (e ∷ past) cs ≡ true
+unfolding all_exist
+still_exist past e [] h = refl
+still_exist past e (c ∷ cs) h =
+    rw (stays past e c.0 (and_left (exists past c.0) (list_all (λ d. exists past d.0) cs) h))
+    (still_exist past e cs (and_right (exists past c.0) (list_all (λ d. exists past d.0) cs) h))
 
 first_either : {A : Type 0} (o p : Option A) (x : A) (P : Type 0) → (o ≡ Some x → P) → (p ≡ Some x → P) → first_some o p ≡ Some x → P
 first_either (Some y) p x P f g h = f h

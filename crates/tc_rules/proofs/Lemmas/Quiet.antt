@@ -1,7 +1,7 @@
 -- An entry that changes no component's phase, and whose caller continues, wakes nobody.
 use Rattle.std.{proofs.Common.{ℕ, ◌≡◌, ◌==◌, ◌&&◌, ◌||◌, not, if◌then◌else◌, Bool, true, false, Option, Some, None, is_some, List, [], ◌∷◌, ◌++◌, drop, refl, ap, sym, ◌∙◌}, specs.List.{list_any, list_all}}
 use Rattle.tc_entry.specs.{Prelude.{Run, is_ended, is_fault, is_ok}, declared.comp.Comp.Comp, declared.entry.Entry.Entry, declared.op.Op.Op, declared.op.Target.Target, declared.phase.Phase.Phase, declared.reply.Fault.Fault, declared.reply.Reply.Reply}
-use Rattle.tc_rules.{specs.{Answers.{answer, is_active, is_run_of}, Inside.Words.{answer_unless, asks_many, is_active_on, first_some, starts_on, starts_run, phase_if_not_killed}, Faults.{all_exist, fault, target_names}, History.{add_new, comp_of, comps, created, ends_case, exists, halts, is_alive_type, is_finish, is_in, kills}, Inside.Laws.{WakesNobody, halting_op, is_quiet, keeps_phases, lets_go_on}, Legal.IsLegal, Phases.{last_run, phase, start_in, was_halted, was_killed}, Status.{done, is_done, is_killed, is_running, killed}, Waiting.{holds, is_still, is_stuck, parks, waiting}, declared.awaited.Awaited.Awaited}, proofs.{Lemmas.Deciding.{and_left, and_no, and_right, first_alone, if_same, no_finish, no_kill, no_stop, no_stop_case, none_if, self_equal}, Lemmas.LawsOfHistories.answered_is_running, Lemmas.Over.{on_existing, stays}, Lemmas.Sound.starts, Lemmas.Stuck.one_false}}
+use Rattle.tc_rules.{specs.{Answers.{answer, is_active, is_run_of}, Inside.Words.{answer_unless, asks_many, is_active_on, first_some, starts_on, starts_run, phase_if_not_killed}, Faults.{all_exist, fault, target_names}, History.{add_new, comp_of, comps, created, ends_case, exists, halts, is_alive_type, is_finish, is_in, kills}, Inside.Laws.{WakesNobody, halting_op, is_quiet, keeps_phases, lets_go_on}, Legal.IsLegal, Phases.{last_run, phase, start_in, was_halted, was_killed}, Status.{done, is_done, is_killed, is_running, killed}, Waiting.{holds, is_still, is_stuck, parks, waiting}, declared.awaited.Awaited.Awaited}, proofs.{Lemmas.Deciding.{and_left, and_no, and_right, first_alone, if_same, no_finish, no_kill, no_stop, no_stop_case, none_if, self_equal}, Lemmas.LawsOfHistories.answered_is_running, Lemmas.Over.{on_existing, stays, still_exist}, Lemmas.Sound.starts, Lemmas.Stuck.{is_in_comps, one_false}}}
 
 -- what an operation that keeps the phases is not
 
@@ -33,15 +33,14 @@ not_parked : (op : Op) (reply : Reply) → lets_go_on reply ≡ true → parks o
 not_parked op Reply.Parked h = absurd cc
 not_parked op _ h = refl
 
--- what is known of a quiet entry
-record Quiet (e : Entry) : Type 0 where
-  ends : ends_case e ≡ false
-  kill : (c : ℕ) → kills e c ≡ false
-  halt : (own : Option Comp) (c : ℕ) → halts own e c ≡ false
-  start : (c : ℕ) → start_in e c ≡ None
-  run : (b : ℕ) → (if is_ok e.reply then starts_run e.op b else None) ≡ None
-  park : parks e.op e.reply ≡ None
-  goes_on : is_ended e.reply ≡ false
+-- what is known of a quiet entry, and of one replied Ended
+pub record Quiet (e : Entry) : Type 0 where
+  pub ends : ends_case e ≡ false
+  pub kill : (c : ℕ) → kills e c ≡ false
+  pub halt : (own : Option Comp) (c : ℕ) → halts own e c ≡ false
+  pub start : (c : ℕ) → start_in e c ≡ None
+  pub run : (b : ℕ) → (if is_ok e.reply then starts_run e.op b else None) ≡ None
+  pub park : parks e.op e.reply ≡ None
 
 quiet : (e : Entry) → is_quiet e.op e.reply ≡ true → Quiet e
 quiet e h =
@@ -59,7 +58,6 @@ quiet e h =
       start = λ c. rw (none_on e.op c k) (if_same (is_ok e.reply) None);
       run = λ b. rw (no_run e.op b k) (if_same (is_ok e.reply) None);
       park = not_parked e.op e.reply g;
-      goes_on = a;
     }
 
 -- components that were started, or killed, exist
@@ -98,7 +96,7 @@ unmade n past c legal h =
     let r : last_run past c ≡ None = none_if (last_run past c) (not_if (is_some (last_run past c)) (exists past c) (started_exists n past c legal) h) in
     rw (k, r)
 
-same_phase : (n : ℕ) (past : List Entry) (e : Entry) (c : ℕ) → IsLegal n past → Quiet e → phase (e ∷ past) c ≡ phase past c
+pub same_phase : (n : ℕ) (past : List Entry) (e : Entry) (c : ℕ) → IsLegal n past → Quiet e → phase (e ∷ past) c ≡ phase past c
 unfolding phase
 same_phase n past e c legal q =
     let k : was_killed (e ∷ past) c ≡ was_killed past c = rw (q.kill c, and_no (exists past c)) in
@@ -205,16 +203,12 @@ not_yet n past e false t legal q h = not_done n past e t legal q h
 
 -- the caller continues, so the case is not stuck
 
-now_in : (past : List Entry) (c : ℕ) → exists past c ≡ true → is_in c (comps past) ≡ true
-unfolding exists
-now_in past c h = h
-
-not_stuck : (n : ℕ) (past : List Entry) (e : Entry) → IsLegal n (e ∷ past) → Quiet e → is_stuck (e ∷ past) ≡ false
+not_stuck : (n : ℕ) (past : List Entry) (e : Entry) → IsLegal n (e ∷ past) → Quiet e → is_ended e.reply ≡ false → is_stuck (e ∷ past) ≡ false
 unfolding is_stuck
-not_stuck n past e legal q =
-    let on = answered_is_running n past e legal q.goes_on in
+not_stuck n past e legal q goes_on =
+    let on = answered_is_running n past e legal goes_on in
     let c : Comp = on.0 in
-    let there : is_in c.0 (comps (e ∷ past)) ≡ true = now_in (e ∷ past) c.0 (stays past e c.0 (on_existing n past e.caller.0 c legal.1 on.1.0)) in
+    let there : is_in c.0 (comps (e ∷ past)) ≡ true = is_in_comps (e ∷ past) c.0 (stays past e c.0 (on_existing n past e.caller.0 c legal.1 on.1.0)) in
     let now : phase (e ∷ past) c.0 ≡ Phase.Running (record { 0 = e.caller.0 }) = same_phase n past e c.0 legal.1 q ∙ on.1.1 in
     let none : waiting (e ∷ past) e.caller.0 ≡ None = rw (self_equal e.caller.0) q.park in
     let goes : is_still (e ∷ past) (Phase.Running (record { 0 = e.caller.0 })) ≡ false = rw none refl in
@@ -229,23 +223,16 @@ same_active_on : (n : ℕ) (past : List Entry) (e : Entry) (b : ℕ) (o : Option
 same_active_on n past e b (Some c) legal q = ap (is_run_of b) (same_phase n past e c.0 legal q)
 same_active_on n past e b None legal q = refl
 
-same_active : (n : ℕ) (past : List Entry) (e : Entry) (b : ℕ) → IsLegal n past → Quiet e → is_active (e ∷ past) b ≡ is_active past b
+pub same_active : (n : ℕ) (past : List Entry) (e : Entry) (b : ℕ) → IsLegal n past → Quiet e → is_active (e ∷ past) b ≡ is_active past b
 unfolding is_active
 same_active n past e b legal q = ap (is_active_on (e ∷ past) b) (same_run past e b q) ∙ same_active_on n past e b (comp_of past b) legal q
-
-still_exist : (past : List Entry) (e : Entry) (cs : List Comp) → all_exist past cs ≡ true → all_exist (e ∷ past) cs ≡ true
-unfolding all_exist
-still_exist past e [] h = refl
-still_exist past e (c ∷ cs) h =
-    rw (stays past e c.0 (and_left (exists past c.0) (list_all (λ d. exists past d.0) cs) h))
-    (still_exist past e cs (and_right (exists past c.0) (list_all (λ d. exists past d.0) cs) h))
 
 fault_cases : (x y : Bool) (f g : Fault) → (if not x then Some f else if y then Some g else None) ≡ None → (x ≡ true) × (y ≡ false)
 fault_cases true true f g h = absurd cc
 fault_cases true false f g h = (refl, refl)
 fault_cases false y f g h = absurd cc
 
-no_new_fault : (n : ℕ) (past : List Entry) (e : Entry) (b : ℕ) (k : Bool) (t : Target) → fault n past b (Op.Wake k t) ≡ None → fault n (e ∷ past) b (Op.Wake k t) ≡ None
+pub no_new_fault : (n : ℕ) (past : List Entry) (e : Entry) (b : ℕ) (k : Bool) (t : Target) → fault n past b (Op.Wake k t) ≡ None → fault n (e ∷ past) b (Op.Wake k t) ≡ None
 unfolding fault
 no_new_fault n past e b k t h =
     let f = fault_cases (all_exist past (target_names t)) (asks_many (Op.Wake k t) && not (b == 0)) Fault.NoComponent Fault.NotMain h in
@@ -258,15 +245,15 @@ parked_cases true None true z k = absurd cc
 parked_cases true (Some f) h z k = absurd cc
 parked_cases false f h z k = absurd cc
 
-still_parked : (n : ℕ) (past : List Entry) (e : Entry) (b : ℕ) (k : Bool) (t : Target) → IsLegal n (e ∷ past) → Quiet e → answer n past b (Op.Wake k t) ≡ Reply.Parked → answer n (e ∷ past) b (Op.Wake k t) ≡ Reply.Parked
+still_parked : (n : ℕ) (past : List Entry) (e : Entry) (b : ℕ) (k : Bool) (t : Target) → IsLegal n (e ∷ past) → Quiet e → is_ended e.reply ≡ false → answer n past b (Op.Wake k t) ≡ Reply.Parked → answer n (e ∷ past) b (Op.Wake k t) ≡ Reply.Parked
 unfolding answer
-still_parked n past e b k t legal q h =
+still_parked n past e b k t legal q goes_on h =
     let a : Awaited = record { killed = k; target = t } in
     let p = parked_cases (is_active past b) (fault n past b (Op.Wake k t)) (holds past a) ((b == 0) && is_stuck past) h in
     let active : is_active (e ∷ past) b ≡ true = same_active n past e b legal.1 q ∙ p.0 in
     let no : fault n (e ∷ past) b (Op.Wake k t) ≡ None = no_new_fault n past e b k t p.1 in
     let vain : holds (e ∷ past) (record { killed = k; target = t }) ≡ false = not_yet n past e k t legal.1 q p.2 in
-    let going : is_stuck (e ∷ past) ≡ false = not_stuck n past e legal q in
+    let going : is_stuck (e ∷ past) ≡ false = not_stuck n past e legal q goes_on in
     rw (active, no, vain, going, and_no (b == 0)) refl
 
 -- a quiet entry wakes nobody
@@ -274,7 +261,7 @@ pub quiet_wakes_nobody : (n : ℕ) (past : List Entry) (e : Entry) → IsLegal n
 quiet_wakes_nobody n past e legal h =
     let q = quiet e h in
     record {
-      parked = λ b k t. still_parked n past e b k t legal q;
+      parked = λ b k t. still_parked n past e b k t legal q (not_ended e.reply (and_right (keeps_phases e.op) (lets_go_on e.reply) h));
       runs = λ b. same_run past e b q;
       over = rw q.ends refl;
     }

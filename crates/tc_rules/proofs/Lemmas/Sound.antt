@@ -1,7 +1,7 @@
 -- What an entry with the right reply says.
 use Rattle.std.proofs.{Common.{ℕ, ◌≡◌, ◌<◌, ◌==◌, ◌&&◌, ◌||◌, not, nat_le, if◌then◌else◌, Bool, true, false, Option, Some, None, is_some, List, ◌∷◌, refl, ap, subst, sym, ◌∙◌, arith}, lemmas.Bool.Decides.nat_tests}
 use Rattle.tc_entry.specs.{declared.comp.Comp.Comp, declared.entry.Entry.Entry, declared.limits.TheConstants.COMPONENTS, declared.op.Op.Op, declared.reply.Fault.Fault, declared.reply.Reply.Reply, Prelude.{Run, is_ended, is_fault, is_ok}}
-use Rattle.tc_rules.{specs.{Answers.{answer, is_active, plain_answer}, Inside.Words.{answer_unless, asks_many, starts_on, starts_run}, Faults.{all_exist, components, fault, names, special_fault, start_fault, target_names}, History.{comp_of, created, exists, is_alive_create, is_alive_type, kills}, Phases.{last_run, phase, start_in, was_halted, was_killed}, Status.{is_killed, is_running}, Waiting.{awaited, parks}, declared.awaited.Awaited.Awaited}, proofs.{Lemmas.Deciding.{equal_if, ok_is, self_equal, test_by}, Lemmas.Kept.all_exist_more, Lemmas.Steps.phase_by}}
+use Rattle.tc_rules.{specs.{Answers.{answer, is_active, plain_answer}, Inside.Words.{answer_unless, asks_many, starts_on, starts_run}, Faults.{all_exist, components, fault, names, special_fault, start_fault, target_names}, History.{comp_of, created, exists, is_alive_create, is_alive_type, kills}, Phases.{last_run, phase, start_in, was_halted, was_killed}, Status.{is_killed, is_running}, Waiting.{awaited, parks}, declared.awaited.Awaited.Awaited}, proofs.{Lemmas.Deciding.{and_left, equal_if, ok_is, self_equal, test_by}, Lemmas.Kept.all_exist_more, Lemmas.Steps.phase_by}}
 
 -- the call was made by a run that is active, and is no error
 pub record IsPlain (n : ℕ) (past : List Entry) (b : ℕ) (op : Op) (reply : Reply) : Type 0 where
@@ -75,10 +75,6 @@ both_by false s h = absurd cc
 same_by : {A : Type 0} (d c : ℕ) (x : A) → is_some (if d == c then Some x else None) ≡ true → d ≡ c
 same_by d c x h = grind (arith, nat_tests)
 
-first_true : (a b : Bool) → (a && b) ≡ true → a ≡ true
-first_true true b h = refl
-first_true false b h = absurd cc
-
 -- what a Start replied Ok says of its component
 pub record CanStart (past : List Entry) (c : ℕ) (e : Entry) : Type 0 where
   pub known : exists past c ≡ true
@@ -90,7 +86,7 @@ start_of : (n : ℕ) (past : List Entry) (caller : Run) (op : Op) (c : ℕ) → 
 start_of n past caller (Op.Start d run args) c plain h =
     let same : d.0 ≡ c = same_by d.0 c run h in
     let known : all_exist past (d ∷ args) ≡ true = names_exist n past caller.0 (Op.Start d run args) plain.no_fault in
-    let here : exists past d.0 ≡ true = first_true (exists past d.0) (all_exist past args) (sym (all_exist_more past d args) ∙ known) in
+    let here : exists past d.0 ≡ true = and_left (exists past d.0) (all_exist past args) (sym (all_exist_more past d args) ∙ known) in
     let free : was_killed past d.0 ≡ false = not_killed past d.0 (startable n past d.0 run.0 (no_special n past caller.0 (Op.Start d run args) plain.no_fault)) in
     record { known = rw (← same) here; alive = rw (← same) free; no_kill = refl }
 start_of n past caller _ c plain h = absurd cc
@@ -113,7 +109,7 @@ run_of_start n past b (Op.Start c run args) k d plain h =
     let t = test_by (run.0 == k) c d h in
     let same : run.0 ≡ k = equal_if run.0 k t.0 in
     let known : all_exist past (c ∷ args) ≡ true = names_exist n past b (Op.Start c run args) plain.no_fault in
-    let here : exists past c.0 ≡ true = first_true (exists past c.0) (all_exist past args) (sym (all_exist_more past c args) ∙ known) in
+    let here : exists past c.0 ≡ true = and_left (exists past c.0) (all_exist past args) (sym (all_exist_more past c args) ∙ known) in
     let range : run.0 < n = start_in_range n past c.0 run.0 (no_special n past b (Op.Start c run args) plain.no_fault) in
     record { known = rw (← t.1) here; in_range = rw (← same) range }
 run_of_start n past b _ k d plain h = absurd cc

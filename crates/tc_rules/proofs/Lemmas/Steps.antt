@@ -29,7 +29,7 @@ excused_step None out false (Some b) true true old h = refl
 excused_step None out false (Some b) true false old h = refl
 excused_step None out false (Some b) false a old h = refl
 
-worst-append : (vs ws : List Verdict) → worst (vs ++ ws) ≡ next_local vs (worst ws)
+pub worst-append : (vs ws : List Verdict) → worst (vs ++ ws) ≡ next_local vs (worst ws)
 worst-append [] ws = refl
 worst-append (v ∷ vs) ws = rw (worst-append vs ws)
 

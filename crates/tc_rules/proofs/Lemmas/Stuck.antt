@@ -21,7 +21,7 @@ running_is b Phase.Inactive Q f h = absurd cc
 running_is b Phase.Stopped Q f h = absurd cc
 running_is b Phase.Killed Q f h = absurd cc
 
-and_split : (a v : Bool) → (a && not v) ≡ true → (a ≡ true) × (v ≡ false)
+pub and_split : (a v : Bool) → (a && not v) ≡ true → (a ≡ true) × (v ≡ false)
 and_split true false h = (refl, refl)
 and_split true true h = absurd cc
 and_split false v h = absurd cc
@@ -47,11 +47,11 @@ running_by false (Some b) false a r e = cc
 running_by false (Some b) true true r e = absurd cc
 running_by false (Some b) true false r e = absurd cc
 
-phase_running : (past : List Entry) (c : ℕ) (r : Run) → phase past c ≡ Phase.Running r → last_run past c ≡ Some r
+pub phase_running : (past : List Entry) (c : ℕ) (r : Run) → phase past c ≡ Phase.Running r → last_run past c ≡ Some r
 unfolding phase
 phase_running past c r h = running_by (was_killed past c) (last_run past c) (was_halted past c) (is_alive_type past c) r h
 
-is_in_comps : (past : List Entry) (c : ℕ) → exists past c ≡ true → is_in c (comps past) ≡ true
+pub is_in_comps : (past : List Entry) (c : ℕ) → exists past c ≡ true → is_in c (comps past) ≡ true
 unfolding exists
 is_in_comps past c h = h
 

@@ -3,9 +3,6 @@ use Rattle.std.specs.{Prelude.{ℕ, ◌&&◌, ◌||◌, not, nat_lt, Bool, is_so
 use Rattle.tc_entry.specs.{Prelude.{Verdict, worst}, declared.comp.Comp.Comp, declared.entry.Entry.Entry}
 use Rattle.tc_rules.specs.{Answers.is_active, Status.is_done, Status.is_killed, Status.is_running, Waiting.waiting, Inside.Words.waits_in_vain, declared.component_state.ComponentState.ComponentState}
 
-unfoldable pub any_running : List ComponentState → Bool
-any_running states = list_any (λ s. is_running s.phase) states
-
 unfoldable pub none_running : List ComponentState → Bool
 none_running states = list_all (λ s. not (is_running s.phase)) states
 
@@ -14,12 +11,6 @@ any_killed states = list_any (λ s. is_killed s.phase) states
 
 unfoldable pub all_killed : List ComponentState → Bool
 all_killed states = list_all (λ s. is_killed s.phase) states
-
-unfoldable pub any_alive : List ComponentState → Bool
-any_alive states = list_any (λ s. not (is_killed s.phase)) states
-
-unfoldable pub all_alive : List ComponentState → Bool
-all_alive states = list_all (λ s. not (is_killed s.phase)) states
 
 unfoldable pub any_done : List ComponentState → Bool
 any_done states = list_any (λ s. is_done s.phase) states

@@ -1,5 +1,5 @@
 //! Taking in an entry, and what it does to all that is kept.
-ghost use Rattle.std.specs.{Prelude.{◌≡◌, ◌||◌, true, false, Some, None, List, OnErr, OnOk}, Result.IsOk};
+ghost use Rattle.std.specs.{Prelude.{◌≡◌, true, false, Some, None, List, OnErr, OnOk}, Result.IsOk};
 ghost use Rattle.tc_entry.specs.Prelude.{is_fault};
 ghost use Rattle.tc_rules.specs.Standing.{StandsFor, IsReplyOf, TakesIn};
 ghost use Rattle.tc_rules.specs.History as history;
@@ -7,14 +7,13 @@ ghost use Rattle.tc_rules.specs.Inside.Step as step;
 
 use crate::entries::{created, ends_case, is_alive_create};
 use crate::state::CaseState;
-use crate::step::{asks, take_in, take_in_caller, take_in_runs};
+use crate::step::{asks, take_in, take_in_run, take_in_runs};
 use tc_entry::{Comp, Entry, Group, Op, Reply};
 use tc_verdict::{NoMemory, Run, UserVerdict};
 
 #[tactic(auto, using(crate::proofs::Lemmas::Kept::kept_rules, crate::proofs::Settled::settled_rules), unfolding(crate::specs::Standing::StandsFor))]
 impl CaseState {
     /// Takes in an entry that makes no component, by a run on component own.
-    #[tactic(auto, using(crate::proofs::Lemmas::Kept::kept_rules, crate::proofs::Settled::settled_rules), unfolding(crate::specs::Standing::StandsFor))]
     #[inline(always)]
     pub(crate) fn add(&mut self, own: Option<Comp>, entry: &Entry)
         requires legal { IsReplyOf self.old entry.now.caller entry.now.op entry.now.reply }
@@ -25,11 +24,10 @@ impl CaseState {
     {
         take_in(&mut self.states, own, entry);
         take_in_runs(&mut self.runs, entry);
-        self.over = either(self.over, ends_case(entry));
+        self.over |= ends_case(entry);
     }
 
     /// Takes in an entry that asks or waits, without an error.
-    #[tactic(auto, using(crate::proofs::Lemmas::Kept::kept_rules, crate::proofs::Settled::settled_rules), unfolding(crate::specs::Standing::StandsFor))]
     #[inline(always)]
     pub(crate) fn ask(&mut self, entry: &Entry)
         requires legal { IsReplyOf self.old entry.now.caller entry.now.op entry.now.reply }
@@ -38,11 +36,10 @@ impl CaseState {
         ensures behaviours { self.new.behaviours ≡ self.old.behaviours }
         ensures stands { TakesIn self.old entry.now self.new }
     {
-        take_in_caller(&mut self.runs, entry);
+        take_in_run(&mut self.runs, entry, entry.caller);
     }
 
     /// Takes in an entry that makes a component.
-    #[tactic(auto, using(crate::proofs::Lemmas::Kept::kept_rules, crate::proofs::Settled::settled_rules), unfolding(crate::specs::Standing::StandsFor))]
     pub(crate) fn make(&mut self, entry: &Entry, comp: Comp) -> Result<(), NoMemory>
         requires legal { IsReplyOf self.old entry.now.caller entry.now.op entry.now.reply }
         requires makes { history.created entry.now.op entry.now.reply ≡ Some comp }
@@ -157,10 +154,4 @@ impl CaseState {
             _ => self.change(entry),
         }
     }
-}
-
-fn either(a: bool, b: bool) -> bool
-    ensures { result ≡ (a || b) }
-{
-    a || b
 }

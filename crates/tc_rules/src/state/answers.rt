@@ -45,27 +45,17 @@ impl CaseState {
             Op::Done(target) => Reply::Answer(self.done(*target)),
             Op::Killed(target) => Reply::Answer(self.killed(*target)),
             Op::Wait { killed, target } => {
-                let awaited = Awaited {
-                    killed: *killed,
-                    target: *target,
-                };
-                if self.holds(awaited) {
-                    Reply::Matched
-                } else {
-                    Reply::Parked
+                let (killed, target) = (*killed, *target);
+                match self.holds(Awaited { killed, target }) {
+                    true => Reply::Matched,
+                    false => Reply::Parked,
                 }
             }
             Op::Wake { killed, target } => {
-                let awaited = Awaited {
-                    killed: *killed,
-                    target: *target,
-                };
-                self.wake_reply(caller, awaited)
+                let (killed, target) = (*killed, *target);
+                self.wake_reply(caller, Awaited { killed, target })
             }
-            Op::GetVerdict => {
-                let states = self.states.as_slice();
-                Reply::Local(states[own.0 as usize].local)
-            }
+            Op::GetVerdict => Reply::Local(self.states.get(own.0 as usize).local),
             Op::Start { .. }
             | Op::Stop(_)
             | Op::Kill(_)

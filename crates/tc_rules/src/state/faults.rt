@@ -53,8 +53,7 @@ impl CaseState {
         if comp.0 == 0 {
             return Some(Fault::StartMain);
         }
-        let states = self.states.as_slice();
-        let phase = states[comp.0 as usize].phase;
+        let phase = self.states.get(comp.0 as usize).phase;
         if is_running(phase) {
             return Some(Fault::AlreadyRunning);
         }
@@ -81,13 +80,7 @@ impl CaseState {
             return Some(Fault::NotMain);
         }
         match op {
-            Op::Create { .. } => {
-                if !may_create(self.components() as usize) {
-                    Some(Fault::TooMany)
-                } else {
-                    None
-                }
-            }
+            Op::Create { .. } if !may_create(self.components() as usize) => Some(Fault::TooMany),
             Op::Start { comp, run, .. } => self.start_fault(*comp, *run),
             _ => None,
         }
@@ -123,9 +116,5 @@ fn target_of(op: &Op) -> Option<Target>
 fn asks_many(op: &Op) -> bool
     ensures { result ≡ words.asks_many op.now }
 {
-    match target_of(op) {
-        Some(Target::One(_)) => false,
-        Some(_) => true,
-        None => false,
-    }
+    matches!(target_of(op), Some(Target::Any | Target::All))
 }

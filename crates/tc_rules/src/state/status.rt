@@ -26,12 +26,7 @@ impl CaseState {
         ensures is { (past : List Entry) → StandsFor self.now past → result ≡ history.comp_of past run.0 }
         ensures within { IfSome result (λ c. c.0 < length self.now.states) }
     {
-        if (run.0 as usize) < self.runs.len() {
-            let state = self.runs[run.0 as usize];
-            state.comp
-        } else {
-            None
-        }
+        self.runs.get(run.0 as usize)?.comp
     }
 
     /// Whether components are running.
@@ -40,10 +35,9 @@ impl CaseState {
         requires { tests.all_below (faults.target_names target) (length self.now.states) ≡ true }
         ensures { (past : List Entry) → StandsFor self.now past → result ≡ status.running past target }
     {
-        let states = self.states.as_slice();
         match target {
-            Target::One(comp) => is_running(states[comp.0 as usize].phase),
-            Target::Any => self.states.any_running(),
+            Target::One(comp) => is_running(self.states.get(comp.0 as usize).phase),
+            Target::Any => !self.states.none_running(),
             Target::All => self.states.none_lapsed(),
         }
     }
@@ -54,11 +48,10 @@ impl CaseState {
         requires { tests.all_below (faults.target_names target) (length self.now.states) ≡ true }
         ensures { (past : List Entry) → StandsFor self.now past → result ≡ status.alive past target }
     {
-        let states = self.states.as_slice();
         match target {
-            Target::One(comp) => !is_killed(states[comp.0 as usize].phase),
-            Target::Any => self.states.any_alive(),
-            Target::All => self.states.all_alive(),
+            Target::One(comp) => !is_killed(self.states.get(comp.0 as usize).phase),
+            Target::Any => !self.states.all_killed(),
+            Target::All => !self.states.any_killed(),
         }
     }
 
@@ -68,9 +61,8 @@ impl CaseState {
         requires { tests.all_below (faults.target_names target) (length self.now.states) ≡ true }
         ensures { (past : List Entry) → StandsFor self.now past → result ≡ status.done past target }
     {
-        let states = self.states.as_slice();
         match target {
-            Target::One(comp) => is_done(states[comp.0 as usize].phase),
+            Target::One(comp) => is_done(self.states.get(comp.0 as usize).phase),
             Target::Any => self.states.any_done(),
             Target::All => self.states.none_running(),
         }
@@ -82,9 +74,8 @@ impl CaseState {
         requires { tests.all_below (faults.target_names target) (length self.now.states) ≡ true }
         ensures { (past : List Entry) → StandsFor self.now past → result ≡ status.killed past target }
     {
-        let states = self.states.as_slice();
         match target {
-            Target::One(comp) => is_killed(states[comp.0 as usize].phase),
+            Target::One(comp) => is_killed(self.states.get(comp.0 as usize).phase),
             Target::Any => self.states.any_killed(),
             Target::All => self.states.all_killed(),
         }

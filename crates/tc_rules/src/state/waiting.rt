@@ -23,8 +23,7 @@ impl CaseState {
         ensures within { IfSome result (λ c. c.0 < length self.now.states) }
     {
         let comp = self.comp_of(caller)?;
-        let states = self.states.as_slice();
-        if is_run_of(caller, states[comp.0 as usize].phase) {
+        if is_run_of(caller, self.states.get(comp.0 as usize).phase) {
             Some(comp)
         } else {
             None
@@ -52,6 +51,14 @@ impl CaseState {
         }
     }
 
+    /// What a run waits for, if its last entry is a Wait or Wake replied Parked.
+    #[tactic(auto, using(crate::proofs::Lemmas::Kept::kept_rules, crate::proofs::Lemmas::Kept::wait_rules), unfolding(crate::specs::Standing::StandsFor))]
+    pub fn parked(&self, run: Run) -> Option<Awaited>
+        ensures { (past : List Entry) → StandsFor self.now past → result ≡ waits.waiting past run.0 }
+    {
+        self.runs.get(run.0 as usize)?.waiting
+    }
+
     /// Whether a run waits for what has not come.
     #[tactic(auto, using(crate::proofs::Lemmas::Kept::kept_rules, crate::proofs::Lemmas::Kept::wait_rules), unfolding(crate::specs::Standing::StandsFor))]
     pub(crate) fn waits_in_vain(&self, run: Run) -> bool
@@ -73,10 +80,7 @@ impl CaseState {
     pub(crate) fn goes_on(&self, run: Run) -> bool
         ensures { (past : List Entry) → StandsFor self.now past → result ≡ tests.goes_on past run.0 }
     {
-        match self.active_on(run) {
-            Some(_) => !self.waits_in_vain(run),
-            None => false,
-        }
+        self.is_active(run) && !self.waits_in_vain(run)
     }
 
     /// Whether every run that is active waits in vain.
@@ -95,8 +99,5 @@ impl CaseState {
 fn is_run_of(run: Run, phase: Phase) -> bool
     ensures { result ≡ answers.is_run_of run.0 phase }
 {
-    match phase {
-        Phase::Running(b) => b.0 == run.0,
-        _ => false,
-    }
+    matches!(phase, Phase::Running(b) if b.0 == run.0)
 }

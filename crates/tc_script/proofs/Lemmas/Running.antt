@@ -1,10 +1,10 @@
 -- The pass as the steps of a script are called.
 use Rattle.std.proofs.{Common.{ℕ, suc, ◌≡◌, ◌∙◌, ◌+◌, ◌<◌, inl, inr, ◌++◌, ◌==◌, Bool, false, true, refl, List, [], ◌∷◌, length, drop, get_or, drop-cons, arith, sym, ap, subst, append_assoc}, lemmas.{Bool.{Decides.nat_tests, false≢true}, List.append-nil}}
 use Rattle.tc_rules.specs.Prelude.{Comp, Entry, Reply, Op}
-use Rattle.tc_step.specs.{declared.step.Step.Step, Prelude.{operation, target, AreBound, ScriptView}}
+use Rattle.tc_step.specs.{declared.step.Step.Step, Prelude.{operation, target, ScriptView}}
 use Rattle.tc_book.specs.Prelude.{PassState, has_ended, entry_of}
-use Rattle.tc_exec.specs.declared.job.Back.{Back}
-use Rattle.tc_script.specs.{Calls.{Acts, Calls, HasCalled, HasCalled.{none, one_more}, HasRun}, Inside.{HasGrown, IsSoFar, IsStepped}}
+use Rattle.tc_exec.specs.declared.job.{Back.Back, Ending.Ending}
+use Rattle.tc_script.specs.{Calls.{Acts, Calls, HasCalled, HasCalled.{none, one_more}, HasRun, ending}, Inside.{HasGrown, IsStepped}}
 
 abbrev with_log : PassState → List Entry → PassState
 with_log p log = record p { log = log }
@@ -44,18 +44,22 @@ acts_grown s p b acts = by (length p.args == s.parameters) refl
     by true as_many = run_grown s.steps p b.pass b.ending (acts.calls (grind (arith, nat_tests, as_many)))
     by false other = subst (HasGrown p) (sym (acts.other_count (λ same. let is : (length p.args == s.parameters) ≡ true = grind (arith, nat_tests, same) in false≢true (sym other ∙ is))).0) (grown_none p)
 
-pub so_far_none : (steps : List Step) (start : PassState) (bound : List Comp) → bound ≡ start.args → AreBound (length start.args) steps → IsSoFar steps start steps bound start
-so_far_none steps start bound is are = rw is (record { called = none; bound = λ on. are })
-
-pub so_far_more : (steps : List Step) (start : PassState) (now left : List Step) (s : Step) (comps comps-new : List Comp) (mid new : PassState) (r : Reply)
-    → IsSoFar steps start now comps mid → now ≡ s ∷ left → has_ended mid ≡ false → IsStepped s comps mid comps-new new r → IsSoFar steps start left comps-new new
-so_far_more steps start now left s comps comps-new mid new r so at on did =
-    let called : HasCalled steps start (s ∷ left) comps mid = subst (λ l. HasCalled steps start l comps mid) at so.called in
-    let are : AreBound (length comps) (s ∷ left) = subst (AreBound (length comps)) at (so.bound on) in
-    record {
-      called = subst (λ b. HasCalled steps start left b new) (sym did.binds) (one_more s left comps mid new r called on did.called);
-      bound = λ on-new. subst (λ n. AreBound n left) (sym (did.counts on-new)) are.1;
-    }
-
 pub step_at : (steps : List Step) (i : ℕ) (d : Step) → i < length steps → drop i steps ≡ get_or steps i d ∷ drop (i + 1) steps
 step_at steps i d lt = let e : i + 1 ≡ suc i = omega arith in rw e (drop-cons steps i d lt)
+
+pub none_are : (steps : List Step) → length steps ≡ 0 → steps ≡ []
+none_are [] e = refl
+none_are (s ∷ steps) e = absurd (omega (arith, e))
+
+pub starved : (steps : List Step) → (length steps == 0) ≡ false → ending false steps ≡ Ending.Starved
+starved [] e = absurd cc
+starved (s ∷ steps) e = refl
+
+pub called_none : (steps items : List Step) (start : PassState) (bound : List Comp) → items ≡ steps → bound ≡ start.args → HasCalled steps start items bound start
+called_none steps items start bound are is = rw (are, is) none
+
+pub called_more : (steps : List Step) (start : PassState) (now left : List Step) (s : Step) (bound bound-new : List Comp) (mid new : PassState) (r : Reply)
+    → HasCalled steps start now bound mid → now ≡ s ∷ left → has_ended mid ≡ false → IsStepped s bound mid bound-new new r → HasCalled steps start left bound-new new
+called_more steps start now left s bound bound-new mid new r so at on did =
+    let called : HasCalled steps start (s ∷ left) bound mid = subst (λ l. HasCalled steps start l bound mid) at so in
+    subst (λ b. HasCalled steps start left b new) (sym did.binds) (one_more s left bound mid new r called on did.called)

@@ -1,4 +1,4 @@
 use Rattle.tc_answer.proofs.stderr.refuse.Goals as goal
 
 pub returns : goal.returns
-returns g c = c.refuse_with.ensures _ c.line_of_fault.ensures
+returns g c = c.refuse_with.ensures _ c.line_of.ensures

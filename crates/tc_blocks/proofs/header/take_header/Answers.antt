@@ -1,6 +1,6 @@
 use Rattle.std.{proofs.Common.{◌∙◌, ◌++◌, ◌∷◌, ap, refl}, specs.Fmt.decimal}
 use Rattle.tc_text.specs.Prelude.{lines_of}
-use Rattle.tc_blocks.proofs.Headers.{space_ends, begins_with_header, header_spelled, same_header}
+use Rattle.tc_blocks.proofs.{Headers.{begins_with_header, header_spelled, same_header}, Lemmas.Notes.space_ends}
 use Rattle.tc_blocks.proofs.header.take_header.Goals as goal
 
 pub returns-in_err-kind-clause-only : goal.returns-in_err-kind-clause-only

@@ -1,6 +1,6 @@
 use Rattle.std.{proofs.Common.{◌∙◌, ◌++◌, ◌∷◌, sym, arith}, specs.Fmt.decimal}
 use Rattle.tc_text.proofs.Lemmas.LinesOf.{ends_line}
-use Rattle.tc_blocks.proofs.{Headers.{behind_space, space_ends}, InnerLines.{ends_at, same_lines}, Lemmas.Notes.{begins_with_naming, behind_word, naming_spelled, same_naming}}
+use Rattle.tc_blocks.proofs.{Headers.behind_space, InnerLines.{ends_at, same_lines}, Lemmas.Notes.{space_ends, begins_with_naming, behind_word, naming_spelled, same_naming}}
 use Rattle.tc_blocks.proofs.note.take_naming.Goals as goal
 
 pub returns-in_err-rest-clause-only : goal.returns-in_err-rest-clause-only

@@ -16,7 +16,7 @@ returns-in_default-clause-read g c = record {
   same = refl;
   goes = λ before so.
       let reading = c.args.reading.now in
-      gone_on g.H.TakesEvidence.stands g.H.TakesEvidence.opens (IsFirst reading.only_histories) before c.args.text.now _ reading.made reading.line c.in_ok-line.line c.args.block _ so (rw c.in_default.is at c.in_ok-line.ensures.taken) refl refl refl;
+      gone_on g.H.TakesEvidence.stands g.H.TakesEvidence.opens (IsFirst reading.only_histories) before c.args.text.now _ reading.made reading.line c.in_ok-line.line c.args.block c.take_lines.new.block so (rw c.in_default.is at c.in_ok-line.ensures.taken) refl c.in_ok-line.ensures.alike.0 c.in_ok-line.ensures.alike.1;
 }
 
 pub returns-clause-read : goal.returns-clause-read
@@ -27,6 +27,6 @@ returns-clause-read g c =
       same = refl;
       goes = λ before so.
           let reading = c.args.reading.now in
-          closed g.H.TakesEvidence.stands g.H.TakesEvidence.opens (IsFirst reading.only_histories) before c.args.text.now reading.made c.close.new.self reading.line c.in_ok-line.line c.args.block c.take_lines.new.met c.take_lines.new.begun (c.in-Some.verdict, c.in-Some.rest)
+          closed g.H.TakesEvidence.stands g.H.TakesEvidence.opens (IsFirst reading.only_histories) before c.args.text.now reading.made c.close.new.self reading.line c.in_ok-line.line c.args.block c.take_lines.new.block.met c.take_lines.new.block.begun (c.in-Some.verdict, c.in-Some.rest)
           (omega (arith, few)) so (rw c.in-Some.is at c.in_ok-line.ensures.taken) c.in_ok-close.ensures;
     })

@@ -1,15 +1,18 @@
-use Rattle.std.proofs.Common.{arith}
+use Rattle.std.proofs.Common.{arith, refl}
 use Rattle.tc_blocks.{specs.{HistoryText.short_entry, Text.format_of, declared.line.Line.Line}, proofs.NextLines.entry_next}
 use Rattle.tc_blocks.proofs.read.take_line.Goals as goal
 
 pub returns : goal.returns
 returns g c =
     let taken = c.in-Some.ensures in
-    let low = c.ranges.behaviours.fits in
-    let entry = short_entry c.in-Some.caller c.in-Some.short c.in-Some.reply in
-    record {
-      line = Line.Entry entry;
-      next = λ before kept. entry_next c.args.kind c.args.behaviours before c.args.text.now entry c.in-Some.rest.now (omega (arith, low)) taken.spelled (taken.fits (format_of c.args.kind)) taken.less (taken.only (format_of c.args.kind));
-      adds = λ before kept. c.add_caller.ensures before c.in-Some.short c.in-Some.reply kept;
-      opened = c.in_ok-take_short.ensures;
-    }
+    let block = c.args.block.now in
+    let few = block.few in
+    let entry = short_entry c.in-Some.caller c.in-Some.short c.in-Some.reply in (
+      (refl, refl),
+      record {
+        line = Line.Entry entry;
+        next = λ before kept. entry_next block.kind block.behaviours before c.args.text.now entry c.in-Some.rest.now (omega (arith, few)) taken.spelled (taken.fits (format_of block.kind)) taken.less (taken.only (format_of block.kind));
+        adds = λ before kept. c.add_caller.ensures before c.in-Some.short c.in-Some.reply kept;
+        opened = c.in_ok-take_short.ensures;
+      },
+    )

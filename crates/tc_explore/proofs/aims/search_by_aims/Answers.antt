@@ -1,5 +1,5 @@
-use Rattle.std.proofs.Common.{rules, ◌≡◌, true, false, None, Some}
-use Rattle.tc_explore.{specs.Inside.Seen.next_aim, proofs.{Kept.{met_max, met_more, most_full, most_of, most_within}, NextAim.{above_all, above_next}}}
+use Rattle.std.proofs.Common.{rules, ◌≡◌, true, false, None, Some, arith}
+use Rattle.tc_explore.{specs.Inside.Seen.next_aim, proofs.{Kept.{met_max, met_more, most_of}, NextAim.{above_all, above_next}}}
 use Rattle.tc_explore.proofs.aims.search_by_aims.Goals as goal
 
 pub loop-extent-preserved : goal.loop-extent-preserved
@@ -12,7 +12,7 @@ loop-extent-preserved c =
       now.found,
       above_next c.args.scripts.now c.loop-extent.found.witnesses.items c.search_all.new.found.witnesses.items c.loop-extent.aim c.in-Some.better now.more_found was.1 (now.complete whole) is,
       met_max c.args.scripts.now c.loop-extent.found.reached.items c.search_all.new.found.reached.items c.loop-extent.states c.in_ok-extent.extent.states c.max-states.result most now.more was.2 now.met,
-      most_within c.loop-extent.states c.in_ok-extent.extent.states c.max-states.result c.args.limit most was.3 now.within,
+      omega (arith, most, was.3, now.within),
     )
 
 pub returns-then-not-extent-clause-searched : goal.returns-then-not-extent-clause-searched
@@ -25,8 +25,8 @@ returns-then-not-extent-clause-searched c =
       noted = c.in_ok-note_straight.ensures.found;
       met = met_more c.args.scripts.now c.search_all.new.found.reached.items c.note_straight.new.found.reached.items c.max-states.result c.in_ok-note_straight.ensures.more (met_max c.args.scripts.now c.loop-extent.found.reached.items c.search_all.new.found.reached.items c.loop-extent.states c.in_ok-extent.extent.states c.max-states.result most now.more was.2 now.met);
       complete = λ h. absurd cc;
-      within = most_within c.loop-extent.states c.in_ok-extent.extent.states c.max-states.result c.args.limit most was.3 now.within;
-      full = λ h. most_full c.loop-extent.states c.in_ok-extent.extent.states c.max-states.result c.args.limit most was.3 (now.full part);
+      within = omega (arith, most, was.3, now.within);
+      full = λ h. omega (arith, most, was.3, now.full part);
     }
 
 pub returns-in-None-clause-searched : goal.returns-in-None-clause-searched
@@ -40,6 +40,6 @@ returns-in-None-clause-searched c =
       noted = now.found;
       met = met_max c.args.scripts.now c.loop-extent.found.reached.items c.search_all.new.found.reached.items c.loop-extent.states c.in_ok-extent.extent.states c.max-states.result most now.more was.2 now.met;
       complete = λ h. above_all c.args.scripts.now c.loop-extent.found.witnesses.items c.search_all.new.found.witnesses.items c.loop-extent.aim now.more_found was.1 (now.complete whole) is;
-      within = most_within c.loop-extent.states c.in_ok-extent.extent.states c.max-states.result c.args.limit most was.3 now.within;
+      within = omega (arith, most, was.3, now.within);
       full = λ h. absurd cc;
     }

@@ -1,7 +1,7 @@
 use Rattle.std.proofs.Common.{rules, ◌≡◌, ◌∷◌, true, false}
 use Rattle.tc_rules.specs.Prelude.{is_fault, past_of, answer, entry_made}
 use Rattle.tc_course.specs.Prelude.{goes_on, IsTurn, IsOn}
-use Rattle.tc_explore.{specs.Inside.Simulation.IsSilent, proofs.{Keeping.{on_not_ended, open_silent, within_silent}, Searching.{lead_call, stands_then}}}
+use Rattle.tc_explore.{specs.Inside.Simulation.IsSilent, proofs.{Ahead.on_not_ended, Keeping.open_silent, Searching.{lead_call, stands_then}}}
 use Rattle.tc_explore.proofs.calm.with_silent_calls.Goals as goal
 
 pub loop-preserved : goal.loop-preserved
@@ -15,9 +15,10 @@ loop-preserved c =
     let goes : goes_on (answer c.loop.course.behaviours (past_of c.loop.course) c.args.run.0 c.in-Some.op) ≡ true = search rules in
     let silent : IsSilent c.args.aim c.args.scripts.now (past_of c.loop.course) c.args.run.0 c.in-Some.op = let yes : c.is_silent.result ≡ true = search rules in c.is_silent.ensures.silent yes in
     let added : past_of c.in_ok-course.course ≡ entry_made c.loop.course.behaviours (past_of c.loop.course) c.args.run c.in-Some.op ∷ past_of c.loop.course = search rules in
-    let on : IsOn c.args.scripts.now c.in_ok-course.course = search rules in (
-      open_silent scripts t u c.args.run c.in-Some.op was.0 on turn plain goes silent added,
+    let on : IsOn c.args.scripts.now c.in_ok-course.course = search rules in
+    let next = open_silent scripts t u c.args.run c.in-Some.op was.0 on turn plain goes silent added in (
+      next.0,
       stands_then scripts c.args.course t u was.1 (lead_call scripts t u c.args.run c.in-Some.op was.0.on turn plain (on_not_ended (answer t.behaviours (past_of t) c.args.run.0 c.in-Some.op) goes) silent added),
       λ h. absurd cc,
-      within_silent scripts t u c.args.run c.in-Some.op was.0 turn plain goes silent added was.3,
+      next.1 was.3,
     )

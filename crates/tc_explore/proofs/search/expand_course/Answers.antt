@@ -1,14 +1,14 @@
-use Rattle.std.proofs.Common.{rules, ◌≡◌, ◌<◌, ◌∙◌, ◌+◌, arith, true, false, reverse, ap, sym, subst}
+use Rattle.std.proofs.Common.{rules, ◌≡◌, ◌<◌, ◌∙◌, ◌+◌, arith, true, false, reverse, ap, sym, subst, inl, inr}
 use Rattle.tc_rules.specs.Prelude.{past_of, Verdict}
 use Rattle.tc_course.specs.Prelude.{carried_on, is_found}
-use Rattle.tc_explore.{specs.Inside.Seen.AreHeld, proofs.{Parking.{held_if, never_held, reached_main}, States.{closed_better, closed_error, closed_going, closed_stuck}}}
+use Rattle.tc_explore.{specs.Inside.Seen.AreHeld, proofs.{Parking.{held_if, never_held, reached_main}, States.{closed_state, closed_stuck}}}
 use Rattle.tc_explore.proofs.search.expand_course.Goals as goal
 
 pub returns-then-tried-clause-closed : goal.returns-then-tried-clause-closed
 returns-then-tried-clause-closed c h =
     let closed : c.in_ok-tried.tried.is_closed ≡ true = search rules in
     let goes : c.in_ok-tried.tried.goes_on ≡ true = search rules in
-    closed_going c.args.scripts.now c.try_runs.new.met.states.items c.try_runs.new.found.witnesses.items c.args.course.now c.requires.state (c.in_ok-tried.ensures.closed closed) (c.in_ok-tried.ensures.goes_on goes)
+    closed_state c.args.scripts.now c.try_runs.new.met.states.items c.try_runs.new.found.witnesses.items c.args.course.now c.requires.state (c.in_ok-tried.ensures.closed closed) (inr (inl (c.in_ok-tried.ensures.goes_on goes)))
 
 pub returns-then-level-clause-closed : goal.returns-then-level-clause-closed
 returns-then-level-clause-closed c h =
@@ -16,13 +16,13 @@ returns-then-level-clause-closed c h =
     let low : c.level.result < c.level-2.result = search rules in
     let aim = c.level.ensures.is in
     let error = c.level-2.ensures.is in
-    closed_better c.args.scripts.now c.try_runs.new.met.states.items c.try_runs.new.found.witnesses.items c.args.course.now c.requires.state (c.in_ok-tried.ensures.closed closed) (omega (arith, low, aim, error))
+    closed_state c.args.scripts.now c.try_runs.new.met.states.items c.try_runs.new.found.witnesses.items c.args.course.now c.requires.state (c.in_ok-tried.ensures.closed closed) (inr (inr (omega (arith, low, aim, error))))
 
 pub returns-then-is_found-clause-closed : goal.returns-then-is_found-clause-closed
 returns-then-is_found-clause-closed c h =
     let closed : c.in_ok-tried.tried.is_closed ≡ true = search rules in
     let error : is_found c.try_runs.new.found.witnesses.items Verdict.Error ≡ true = search rules in
-    closed_error c.args.scripts.now c.try_runs.new.met.states.items c.try_runs.new.found.witnesses.items c.args.course.now c.requires.state (c.in_ok-tried.ensures.closed closed) error
+    closed_state c.args.scripts.now c.try_runs.new.met.states.items c.try_runs.new.found.witnesses.items c.args.course.now c.requires.state (c.in_ok-tried.ensures.closed closed) (inl error)
 
 pub note-requires-clause-over : goal.note-requires-clause-over
 note-requires-clause-over c =

@@ -10,5 +10,5 @@ loop-run-preserved c =
     let b = c.loop-run.run in
     let goes : c.is_active-goes_on.result ≡ is_active past b = search rules in
     let stands : c.known.result.now ≡ stand past b = search rules in
-    let one : c.add_run.new.key.items ≡ c.loop-run.key.items ++ run_key_of past b = c.in_ok-add_run.ensures ∙ rw (goes, stands) refl in
-    next_of (run_key_of past) b _ _ _ c.loop-run.invariant one
+    let one : c.add_run.new.key.items ≡ c.loop-run.key.items ++ run_key_of c.args.waits past b = c.in_ok-add_run.ensures ∙ rw (goes, stands) refl in
+    next_of (run_key_of c.args.waits past) b _ _ _ c.loop-run.invariant one

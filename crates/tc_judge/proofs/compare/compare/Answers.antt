@@ -3,27 +3,27 @@ use Rattle.tc_judge.{specs.{Compared.{AreJudged, missing, note}, Inside.{IsJudge
 use Rattle.tc_judge.proofs.compare.compare.Goals as goal
 
 pub loop-block-preserved : goal.loop-block-preserved
-loop-block-preserved g c =
+loop-block-preserved c =
     let j = c.block-item.result in
     let i = c.loop-block.block-index in
     let within : i < length c.args.blocks.now = search rules in
     let item : get_or c.args.blocks.now i j ≡ j = search rules in (
       c.in_ok-append_judged.ensures.whole,
-      compared_more g.S.Says.says c.args.ready.items c.args.blocks.now i j c.loop-block.comparing c.append_judged.new.self c.loop-block.notes.items c.append_judged.new.out.items c.requires
+      compared_more c.args.ready.items c.args.blocks.now i j c.loop-block.comparing c.append_judged.new.self c.loop-block.notes.items c.append_judged.new.out.items c.requires
           within item c.loop-block.invariant.1 c.in_ok-append_judged.ensures.says,
     )
 
 pub loop-block-init : goal.loop-block-init
-loop-block-init g c = (
+loop-block-init c = (
   c.in_ok-comparing.ensures.whole,
   λ cases blocks each judged. (c.in_ok-comparing.ensures.beside cases each, subst (AreJudged cases []) (sym c.new-notes.ensures.items) AreJudged.none),
 )
 
 pub returns : goal.returns
-returns g c cases all each judged =
+returns c cases all each judged =
     let so = c.loop-block.invariant.1 cases all each judged in
     let i = c.loop-block.block-index in
-    let long : length c.args.blocks.now ≡ length all = AllZip-long (IsJudgedBlock (IsWholeOfBlock g.S.Says.says)) all c.args.blocks.now judged in
+    let long : length c.args.blocks.now ≡ length all = AllZip-long (IsJudgedBlock IsWholeOfBlock) all c.args.blocks.now judged in
     let to_end : length c.args.blocks.now ≤ i = search rules in
     let whole : take i all ≡ all = take_all i all (omega (arith, long, to_end)) in
     let beside = subst (λ l. StandsBeside cases (reverse l) c.loop-block.comparing) whole so.0 in

@@ -14,7 +14,7 @@ loop-block-preserved c =
     (seen_more (take i blocks) b c.loop-block.seen c.take.new.self c.in_ok-take.ensures.names c.in_ok-take.ensures.failed c.loop-block.invariant)
 
 pub loop-block-init : goal.loop-block-init
-loop-block-init c = seen_none c.new-seen.result c.new-seen.ensures.names c.new-seen.ensures.failed
+loop-block-init c = seen_none (record { names = c.new.result; failed = c.new-2.result }) (search rules) (search rules)
 
 pub returns : goal.returns
 returns c =

@@ -12,6 +12,9 @@ returns-then-explains g c = (refl, not_long (asks_why c.args.task.now) (is_long 
 pub returns-in-Check : goal.returns-in-Check
 returns-in-Check g c = rw c.in-Check.is (c.check_input.ensures, rw c.in-Check.is at (sym c.explains.ensures ∙ c.if-explains.false), λ e. cc)
 
+pub returns-in-Model : goal.returns-in-Model
+returns-in-Model g c = rw c.in-Model.is (c.model_input.ensures, rw c.in-Model.is at (sym c.explains.ensures ∙ c.if-explains.false), λ e. cc)
+
 pub returns-else-not-is_of_judged : goal.returns-else-not-is_of_judged
 returns-else-not-is_of_judged g c =
     let form = c.in-Report.form in

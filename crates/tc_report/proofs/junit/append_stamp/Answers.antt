@@ -1,10 +1,9 @@
 use Rattle.std.proofs.Common.{ℕ, ◌≡◌, ◌∙◌, ◌++◌, Bool, false, OnOk, Option, Some, ap, codes, subst, sym}
 use Rattle.jiff_fmt.specs.Text.{datetime_text}
-use Rattle.tc_report.specs.Junit.{attribute_text, second_text, stamp_attribute}
+use Rattle.tc_report.specs.Junit.{attribute_text, stamp_attribute}
 use Rattle.tc_report.proofs.junit.append_stamp.Goals as goal
 
 pub returns : goal.returns
-unfolding second_text
 returns c =
     let second = c.in-Some.second in
     let added = c.append_text_attribute in

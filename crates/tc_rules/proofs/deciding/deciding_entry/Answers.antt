@@ -1,5 +1,5 @@
 use Rattle.std.proofs.Common.{arith}
-use Rattle.tc_rules.proofs.Decided.{decided_all, decided_more}
+use Rattle.tc_rules.proofs.Lemmas.Decided.{decided_all, decided_more}
 use Rattle.tc_rules.proofs.deciding.deciding_entry.Goals as goal
 
 pub loop-at-preserved : goal.loop-at-preserved

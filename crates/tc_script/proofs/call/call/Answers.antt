@@ -1,15 +1,14 @@
-use Rattle.std.proofs.{Common.{◌∙◌, ◌++◌, All, ap, refl, subst, map, length}, lemmas.List.Elements.All-tail}
-use Rattle.tc_step.specs.{declared.step.Step.Step, Prelude.{IsBound, places, component}}
+use Rattle.std.proofs.Common.{◌∙◌, ap, map, refl}
+use Rattle.tc_step.specs.{declared.step.Step.Step, Prelude.component}
 use Rattle.tc_script.proofs.Carrying.{plain_step, start_same}
 use Rattle.tc_script.proofs.call.call.Goals as goal
 
-pub arguments-args-requires : goal.arguments-args-requires
-arguments-args-requires g c =
-    let bound = IsBound (length (c.args.pass.now.args ++ c.args.made.now.items)) in
-    rw c.deref-in-Start.ensures.value (All-tail bound c.in-Start.on c.in-Start.args (subst (λ s. All bound (places s)) c.in-Start.is c.requires.bound))
-
 pub returns-in-Start : goal.returns-in-Start
 returns-in-Start g c =
-    let comp = c.component-comp.ensures ∙ ap (λ m. component c.args.pass.now.me (c.args.pass.now.args ++ m) c.in-Start.on) c.deref.ensures.value in
-    let args = c.arguments-args.ensures ∙ ap (λ m. map (component c.args.pass.now.me (c.args.pass.now.args ++ m)) c.in-Start.args) c.deref-in-Start.ensures.value in
-    rw c.in-Start.is (plain_step _ (Step.Start c.in-Start.on c.in-Start.run' c.in-Start.args) _ _ _ _ _ _ c.start.ensures c.carried_out.ensures (start_same c.in-Start.run' comp args) c.requires.not_ended refl refl)
+    let me = c.args.pass.now.me in
+    let on = c.in-Start.on in
+    let places = c.in-Start.args in
+    let comp = c.component-comp.ensures ∙ ap (λ m. component m c.deref.result.now on) c.me-me.ensures ∙ ap (λ b. component me b on) c.deref.ensures.value in
+    let args = c.arguments-args.ensures ∙ ap (λ m. map (component m c.deref-in-Start.result.now) places) c.me-me.ensures
+    ∙ ap (λ b. map (component me b) places) c.deref-in-Start.ensures.value in
+    rw c.in-Start.is (plain_step _ (Step.Start on c.in-Start.run' places) _ _ _ _ _ _ c.start.ensures c.carried_out.ensures (start_same c.in-Start.run' comp args) c.requires refl refl)

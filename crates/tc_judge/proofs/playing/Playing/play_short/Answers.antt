@@ -5,19 +5,19 @@ use Rattle.tc_rules.specs.Prelude.{IsReplyOf, TakesIn}
 use Rattle.tc_judge.proofs.Lemmas.{entry_played, passed_played}
 use Rattle.tc_judge.proofs.playing.Playing.play_short.Goals as goal
 
-pub returns-then-has_differed : goal.returns-then-has_differed
-returns-then-has_differed c first_line h lines here played =
+pub returns-then-is_some : goal.returns-then-is_some
+returns-then-is_some c first_line h lines here played =
     let p = c.args.self.now in
-    let said = c.has_differed.ensures in
-    let tested = c.if-has_differed.true in
+    let said = c.is_some.ensures in
+    let tested = c.if-is_some.true in
     let some : is_some p.difference ≡ true = cc in
     (played.0, passed_played h.behaviours first_line lines (Line.Entry (short_entry c.args.caller c.args.op c.args.given)) p.state p.entries p.difference some played.1)
 
 pub returns-then-same : goal.returns-then-same
 returns-then-same c first_line h lines here played =
     let p = c.args.self.now in
-    let said = c.has_differed.ensures in
-    let tested = c.if-has_differed.false in
+    let said = c.is_some.ensures in
+    let tested = c.if-is_some.false in
     let none : is_some p.difference ≡ false = cc in
     let same : c.in_ok-reply.reply ≡ c.args.given = c.same.ensures.0 c.if-same.true in
     let fits = c.ranges.line.fits in (

@@ -1,4 +1,4 @@
-use Rattle.std.proofs.Common.{◌∷◌}
+use Rattle.std.proofs.Common.{◌∷◌, ◌||◌, Bool, ap}
 use Rattle.tc_rules.{specs.Standing.StandsFor, proofs.{Lemmas.Keeping.{keeps_entry, stands_by}, Settled.settled_kept}}
 use Rattle.tc_rules.proofs.state.CaseState.add.Goals as goal
 
@@ -11,16 +11,16 @@ invariant_of-self c =
     let past = c.self.invariant.0 in
     let stands = stands_by _ c.args.self.now past c.self.view_is c.self.invariant.1 in (
       c.args.entry.now ∷ past,
-      keeps_entry _ c.args.self.now past c.args.entry.now c.take_in.new.states c.take_in_runs.new.runs.items c.args.own c.either-self-inside.result c.self.view_is stands
+      keeps_entry _ c.args.self.now past c.args.entry.now c.take_in.new.states c.take_in_runs.new.runs.items c.args.own _ c.self.view_is stands
           (c.requires.legal past stands) (c.requires.on past stands) c.requires.makes_none
           c.take_in.ensures.as_many c.take_in.ensures.each c.take_in_runs.ensures.as_many c.take_in_runs.ensures.each
-          (rw c.ends_case.ensures at c.either-self-inside.ensures),
+          (ap (λ (t : Bool). c.self.inside.over || t) c.ends_case.ensures),
     )
 
 pub returns-clause-stands : goal.returns-clause-stands
 unfolding StandsFor
 returns-clause-stands c past stands =
-    keeps_entry _ c.args.self.now past c.args.entry.now c.take_in.new.states c.take_in_runs.new.runs.items c.args.own c.either-self-inside.result c.self.view_is stands
+    keeps_entry _ c.args.self.now past c.args.entry.now c.take_in.new.states c.take_in_runs.new.runs.items c.args.own _ c.self.view_is stands
     (c.requires.legal past stands) (c.requires.on past stands) c.requires.makes_none
     c.take_in.ensures.as_many c.take_in.ensures.each c.take_in_runs.ensures.as_many c.take_in_runs.ensures.each
-    (rw c.ends_case.ensures at c.either-self-inside.ensures)
+    (ap (λ (t : Bool). c.self.inside.over || t) c.ends_case.ensures)

@@ -1,5 +1,5 @@
 use Rattle.std.proofs.Common.{◌∙◌, refl, sym}
-use Rattle.tc_serve.proofs.Trying.{made_not, made_so, may_be_awake, moves_rest}
+use Rattle.tc_serve.proofs.Trying.{made_not, made_so, moves_rest}
 use Rattle.tc_serve.proofs.open_case.OpenCase.make.Goals as goal
 
 pub returns-in-Some-clause-ok : goal.returns-in-Some-clause-ok
@@ -7,6 +7,5 @@ returns-in-Some-clause-ok c p closed before rests = made_not c.in-Some.why p c.a
 
 pub returns-clause-ok : goal.returns-clause-ok
 returns-clause-ok c p closed before rests =
-    let free = sym c.in_default.is ∙ c.bar.ensures p rests.is.opened in
-    made_so p c.args.caller c.args.op free _ _
-    (refl, moves_rest c.args.self.now c.play.new.self c.args.caller c.args.op c.args.out.now.items c.play.new.out.items c.in_ok-play.ensures.ok p closed before (may_be_awake p c.args.caller c.args.op free) rests)
+    made_so p c.args.caller c.args.op _ _ (sym c.in_default.is ∙ c.bar.ensures p rests.is.opened)
+    (refl, moves_rest c.args.self.now c.play.new.self c.args.caller c.args.op c.args.out.now.items c.play.new.out.items c.in_ok-play.ensures.ok p closed before rests)

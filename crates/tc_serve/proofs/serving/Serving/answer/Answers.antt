@@ -4,20 +4,20 @@ use Rattle.tc_serve.proofs.serving.Serving.answer.Goals as goal
 
 pub returns-in_default-clause-ok : goal.returns-in_default-clause-ok
 returns-in_default-clause-ok c =
-    done_more c.args.ended c.args.self.now _ c.try_line.new.self c.as_slice-line.result.now c.args.out.now.items c.try_line.new.out.items c.args.told.now.items (rw c.in_default.is at c.in_ok-why.ensures.ok) c.as_slice-line.ensures.value refl refl refl
+    done_more c.args.ended c.args.self.now _ c.try_line.new.self c.as_slice-line.result.now c.args.texts.now.out.items c.try_line.new.out.items c.args.texts.now.told.items (rw c.in_default.is at c.in_ok-why.ensures.ok) c.as_slice-line.ensures.value refl refl refl
 
 pub returns-then-not-is_open-clause-fault : goal.returns-then-not-is_open-clause-fault
 returns-then-not-is_open-clause-fault c =
-    bad_line c.args.ended c.args.self.now c.try_line.new.self c.try_line.new.self c.as_slice-line.result.now c.args.out.now.items c.try_line.new.out.items c.in-Some.why (rw c.in-Some.is at c.in_ok-why.ensures.ok) c.as_slice-line.ensures.value _ c.args.told.now.items
+    bad_line c.args.ended c.args.self.now c.try_line.new.self c.try_line.new.self c.as_slice-line.result.now c.args.texts.now.out.items c.try_line.new.out.items c.in-Some.why (rw c.in-Some.is at c.in_ok-why.ensures.ok) c.as_slice-line.ensures.value _ c.args.texts.now.told.items
     (λ s before out stands. sym c.if-not-is_open.true ∙ c.is_open.ensures s before out stands) refl
 
 pub returns-then-branch-clause-ok : goal.returns-then-branch-clause-ok
 returns-then-branch-clause-ok c =
-    refused_more c.args.ended c.args.self.now c.try_line.new.self c.refuse.new.self c.args.self.now.line.items c.args.out.now.items c.try_line.new.out.items c.in-Some.why (rw (c.in-Some.is, c.as_slice-line.ensures.value) at c.in_ok-why.ensures.ok) refl _ c.refuse.new.out.items
-    c.args.told.now.items (rw (c.if-branch.true, c.as_slice.ensures.value) at c.in_ok-refuse.ensures.ok) refl refl refl
+    refused_more c.args.ended c.args.self.now c.try_line.new.self c.refuse.new.self c.args.self.now.line.items c.args.texts.now.out.items c.try_line.new.out.items c.in-Some.why (rw (c.in-Some.is, c.as_slice-line.ensures.value) at c.in_ok-why.ensures.ok) refl _ c.refuse.new.out.items
+    c.args.texts.now.told.items (rw (c.if-branch.true, c.as_slice-line.ensures.value) at c.in_ok-refuse.ensures.ok) refl refl refl
 
 pub returns-clause-ok : goal.returns-clause-ok
 returns-clause-ok c =
-    lost_more c.args.ended c.args.self.now c.try_line.new.self c.refuse.new.self c.args.self.now.line.items c.args.out.now.items c.try_line.new.out.items c.in-Some.why (rw (c.in-Some.is, c.as_slice-line.ensures.value) at c.in_ok-why.ensures.ok) refl _ c.refuse.new.out.items
-    c.args.told.now.items c.append_refusal.new.told.items (c.args.self.now.lines + 1) (rw (c.if-branch.false, c.as_slice.ensures.value) at c.in_ok-refuse.ensures.ok) (λ s before out stands. sym c.if-not-is_open.false ∙ c.is_open.ensures s before out stands) refl refl refl refl
+    lost_more c.args.ended c.args.self.now c.try_line.new.self c.refuse.new.self c.args.self.now.line.items c.args.texts.now.out.items c.try_line.new.out.items c.in-Some.why (rw (c.in-Some.is, c.as_slice-line.ensures.value) at c.in_ok-why.ensures.ok) refl _ c.refuse.new.out.items
+    c.args.texts.now.told.items c.append_refusal.new.told.items (c.args.self.now.lines + 1) (rw (c.if-branch.false, c.as_slice-line.ensures.value) at c.in_ok-refuse.ensures.ok) (λ s before out stands. sym c.if-not-is_open.false ∙ c.is_open.ensures s before out stands) refl refl refl refl
     c.in_ok-append_refusal.ensures.ok

@@ -5,5 +5,5 @@ use Rattle.tc_serve.proofs.serving.Serving.close.Goals as goal
 pub returns-in-Ok-clause-ok : goal.returns-in-Ok-clause-ok
 returns-in-Ok-clause-ok c =
     let v = c.args.self.now in
-    closes v (record { server = c.close.new.self; line = v.line; lines = v.lines; refused = v.refused }) c.close.new.self c.in-Ok.field-0 c.is_open.result c.args.out.now.items c.close.new.out.items c.args.told.now.items _
+    closes v (record { server = c.close.new.self; line = v.line; lines = v.lines; refused = v.refused }) c.close.new.self c.in-Ok.field-0 c.is_open.result c.args.texts.now.out.items c.close.new.out.items c.args.texts.now.told.items _
     c.in-Ok.ensures.ok refl c.is_open.ensures c.in_ok-append_end.ensures.ok

@@ -3,7 +3,7 @@ use Rattle.tc_serve.proofs.Feeding.{taken_all, taken_bad, taken_more, taken_none
 use Rattle.tc_serve.proofs.serving.Serving.feed.Goals as goal
 
 pub loop-rest-init : goal.loop-rest-init
-loop-rest-init c = taken_none c.args.bytes.now c.args.self.now c.args.out.now.items c.args.told.now.items
+loop-rest-init c = taken_none c.args.bytes.now c.args.self.now c.args.texts.now.out.items c.args.texts.now.told.items
 
 pub loop-rest-preserved : goal.loop-rest-preserved
 loop-rest-preserved c = taken_more _ _ _ _ _ _ _ _ _ _ _ _ c.loop-rest.invariant c.in-Ok.ensures.ok

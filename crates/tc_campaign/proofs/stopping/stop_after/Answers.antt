@@ -1,5 +1,0 @@
-use Rattle.std.proofs.Common.{rules}
-use Rattle.tc_campaign.proofs.stopping.stop_after.Goals as goal
-
-pub returns-else-is_met-clause-better : goal.returns-else-is_met-clause-better
-returns-else-is_met-clause-better c = search rules

@@ -1,7 +1,0 @@
-use Rattle.std.{proofs.Common.{◌≡◌, ◌++◌}, specs.List.{flat_map, range_with_len}}
-use Rattle.tc_rules.specs.Prelude.{past_of}
-use Rattle.tc_explore.specs.Inside.Twins.{wake_key_of}
-use Rattle.tc_explore.proofs.state_keys.add_wakes.Given as goal
-
-abbrev pub invariant-loop-run : goal.invariant-loop-run
-invariant-loop-run l = l.key.items ≡ l.fn.key.items ++ flat_map (wake_key_of (past_of l.course)) (range_with_len 0 l.run)

@@ -1,9 +1,0 @@
-use Rattle.std.proofs.Common.{◌∙◌, refl}
-use Rattle.tc_judge.proofs.Judging.{summary_kept}
-use Rattle.tc_judge.proofs.kept.SummarySays.say.Goals as goal
-
-pub returns : goal.returns
-returns c b is =
-    let all = is.1 refl in
-    summary_kept b c.args.recorded.now.playing c.as_slice-entries.result.now c.in_ok-summary.summary is.0 (c.as_slice-entries.ensures.value ∙ all.0) c.args.recorded.now.said all.1
-    c.in_ok-summary.ensures
