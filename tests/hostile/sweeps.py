@@ -351,7 +351,7 @@ CALLS = os.path.join(FOLDER, "out", "refused_memory")
 # How many calls of each kind there are, and how many of their growths must be refused at least.
 FLOORS = {"tables": (3, 6), "moves on a table": (38, 8), "room on a table": (3, 3), "checks of a history": (2, 7), "states": (6, 15),
           "moves on a state": (38, 3), "copies": (40, 9), "readers": (3, 10), "writers": (46, 88), "writers of a part": (2, 5),
-          "forms and summaries": (18, 100), "live writers": (8, 5), "boards": (3, 12), "opened cases": (3, 300), "calls on a pass": (32, 7),
+          "forms and summaries": (18, 100), "live writers": (8, 5), "boards": (3, 12), "opened cases": (3, 300), "calls on a pass": (32, 9),
           "last calls on a pass": (270, 18), "closed cases": (2, 10), "runs and campaigns": (6, 165), "calls that take no memory": (74, 0)}
 COUNTS = re.compile(r"(.*): (\d+) calls, (\d+) refused, (\d+) answered all the same")
 

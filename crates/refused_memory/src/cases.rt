@@ -61,6 +61,9 @@ const LAST: [(&str, &str, &str); 5] = [
 /// Before the last call fewer than this many calls ask for a verdict: after one of them the log of the run is full.
 const ASKED: usize = 9;
 
+/// For so many calls a log needs more room than it has when it is new.
+const ROOM: usize = 100;
+
 /// The first calls of both runs.
 const FIRST: &str = "0 create alive\n0 create\n0 start 1 1\n1 setverdict pass\n0 getverdict";
 
@@ -232,8 +235,21 @@ Pass::killed Pass::set_verdict Pass::get_verdict Pass::wait_done Pass::wait_kill
     }
 }
 
-/// All calls, each after those before it.
+/// Room in the log of a pass, which leaves the pass as it is whether there is the memory for it or not.
+fn make_room<R: Wait + Copy>(rt: R, trial: &mut Trial) {
+    if let Some(mut opened) = Opened::new(rt, trial.alloc) {
+        trial.begin("Pass::make_room");
+        if let Some(pass) = opened.passes.get_mut(0) {
+            pass.make_room(ROOM);
+        }
+        trial.end();
+        opened.tell(&mut trial.out);
+    }
+}
+
+/// Room in the log, and all calls, each after those before it.
 pub(crate) fn call<R: Wait + Copy>(rt: R, trial: &mut Trial) {
+    make_room(rt, trial);
     call_each(rt, trial, (CALLS, "", ""), 0);
 }
 
