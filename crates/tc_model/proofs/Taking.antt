@@ -1,6 +1,5 @@
 -- Models of the blocks that are not refused, one after the other.
-use Rattle.std.proofs.Common.{ℕ, suc, set, take, ◌++◌, ◌≡◌, ◌<◌, ◌+◌, ◌∙◌, Option, Some, None, is_some, true, List, [], ◌∷◌, length, drop, get_or, refl, sym, ap, subst, arith, drop-cons}
-use Rattle.std.proofs.lemmas.List.{take_more_set}
+use Rattle.std.proofs.Common.{ℕ, suc, ◌≡◌, ◌<◌, ◌+◌, ◌∙◌, Option, Some, None, is_some, true, List, ◌∷◌, length, drop, get_or, sym, ap, subst, arith, drop-cons}
 use Rattle.std.specs.{List.AllZip, Option.option_map_or}
 use Rattle.tc_reader.specs.Prelude.{CampaignView, Word}
 use Rattle.tc_step.specs.Prelude.{ScriptView}
@@ -36,21 +35,3 @@ takes_one a old new c none first is rest are =
     (subst (λ l. AllZip IsModel (a.block ∷ written rest) l) (sym first) (is, are))
 
 pub ruleset taking_rules = (takes_none, takes_one)
-
--- none of the attempts is written, nor is one more that is refused
-none_after : (attempts : List Attempt) (a : Attempt) → is_some a.refusal ≡ true → written attempts ≡ [] → written (attempts ++ a ∷ []) ≡ []
-none_after [] a some none = by_refusal a.refusal some
-  where
-    by_refusal : (o : Option Refusal) → is_some o ≡ true → option_map_or (λ r. []) o (a.block ∷ []) ≡ []
-    by_refusal (Some r) h = refl
-    by_refusal None h = absurd cc
-none_after (b ∷ attempts) a some none = by_refusal b.refusal (λ h. none_after attempts a some h) none
-  where
-    by_refusal : (o : Option Refusal) → (written attempts ≡ [] → written (attempts ++ a ∷ []) ≡ []) →
-        option_map_or (λ r. written attempts) o (b.block ∷ written attempts) ≡ [] →
-        option_map_or (λ r. written (attempts ++ a ∷ [])) o (b.block ∷ written (attempts ++ a ∷ [])) ≡ []
-    by_refusal (Some r) more h = more h
-    by_refusal None more h = absurd cc
-
-pub none_more : (xs : List Attempt) (i : ℕ) (a : Attempt) → i < length xs → is_some a.refusal ≡ true → written (take i xs) ≡ [] → written (take (i + 1) (set xs i a)) ≡ []
-none_more xs i a within some none = ap written (take_more_set xs i a within) ∙ none_after (take i xs) a some none

@@ -1,12 +1,13 @@
 -- The models of blocks: scripts of which they are complete courses; and what is said of a block that has none.
-use Rattle.std.specs.Prelude.{ℕ, ◌≡◌, ◌⊎◌, Ok, List, [], ◌∷◌, ◌++◌, codes, map}
+use Rattle.std.specs.Prelude.{ℕ, ◌≡◌, ◌<◌, ◌≤◌, ◌+◌, ◌⊎◌, if◌then◌else◌, Option, Some, None, is_some, Ok, List, [], ◌∷◌, ◌++◌, codes, map, unwrap_or}
 use Rattle.std.specs.{Fmt.decimal, List.AllZip, Option.option_map_or}
 use Rattle.tc_blocks.specs.declared.block.Block.{Block}
 use Rattle.tc_blocks.specs.Prelude.{entries_of}
 use Rattle.tc_course.specs.Prelude.{IsShown}
 use Rattle.tc_step.specs.Prelude.{ScriptView}
-use Rattle.tc_reader.specs.Prelude.{CampaignView, Word, campaign}
-use Rattle.tc_model.specs.declared.{models.Attempt.Attempt, reason.Reason.Reason, reason.Refusal.Refusal}
+use Rattle.tc_rules.specs.Prelude.{IsBehaviours}
+use Rattle.tc_reader.specs.{Prelude.{CampaignView, Word, campaign}, declared.counts.TheConstants.{TEST_CASES}}
+use Rattle.tc_model.specs.{Reasons.{IsFirstFault, IsFree}, declared.{models.Attempt.Attempt, reason.Reason.Reason, reason.Refusal.Refusal}}
 
 -- the block is a complete course of these scripts, with its verdict; it may have more behaviours, and leave out last arguments of starts
 abbrev pub IsModelBy : Block → List ScriptView → Type 0
@@ -24,6 +25,41 @@ written (a ∷ attempts) = option_map_or (λ refusal. written attempts) a.refusa
 -- the text is the script of one model of each block, in their order; of none it is empty
 abbrev pub AreModels : List ℕ → List Block → Type 0
 AreModels text blocks = ((blocks ≡ []) × (text ≡ [])) ⊎ ((cases : CampaignView) × (campaign text ≡ Ok cases) × AllZip IsModel blocks cases)
+
+-- a refusal of the whole block
+abbrev pub of_block : Block → Reason → Refusal
+of_block b reason = record { line = b.first_line; reason = reason }
+
+-- each line of the block is one that a script can bring
+abbrev pub IsFollowed : Block → Type 0
+IsFollowed b = (at : ℕ) → IsFree b at
+
+-- what comes of a block whose test case and behaviours a script has room for: it is refused for its first fault, or it has none, and is
+-- refused at most because the script would be too long
+abbrev pub IsOutcome : Block → Option Refusal → Type 0
+IsOutcome b None = IsFollowed b
+IsOutcome b (Some r) = IsFirstFault b r ⊎ ((r ≡ of_block b Reason.LongScript) × IsFollowed b)
+
+-- what comes of a block after so many that have a model
+abbrev pub IsTried : ℕ → Block → Option Refusal → Type 0
+IsTried models b o =
+    ((TEST_CASES ≤ models) × (o ≡ Some (of_block b Reason.ManyCases)))
+    ⊎ ((models < TEST_CASES) × (IsBehaviours b.header.behaviours → ⊥) × (o ≡ Some (of_block b Reason.ManyBehaviours)))
+    ⊎ ((models < TEST_CASES) × IsBehaviours b.header.behaviours × IsOutcome b o)
+
+-- the same of blocks one after the other, the first after so many that have a model
+abbrev pub AreTried : ℕ → List Attempt → Type 0
+AreTried models [] = Unit {0}
+AreTried models (a ∷ attempts) = IsTried models a.block a.refusal × AreTried (if is_some a.refusal then models else models + 1) attempts
+
+-- the attempt; if its block was not refused it is, because what was written is not read
+abbrev pub unread : Attempt → Attempt
+unread a = record a { refusal = Some (unwrap_or a.refusal (of_block a.block Reason.NotRead)) }
+
+-- Each block that has a fault is refused for its first one. All others have a model, but for those for which a script has no room; or
+-- none has, because what was written is not read as their models.
+abbrev pub AreAttempts : List Attempt → Type 0
+AreAttempts attempts = (tried : List Attempt) × AreTried 0 tried × ((attempts ≡ tried) ⊎ (attempts ≡ map unread tried))
 
 -- the words for a reason
 abbrev pub reason_text : Reason → List ℕ

@@ -1,12 +1,14 @@
-//! A block followed by the component table, and what each run of its model is given.
-ghost use Rattle.std.specs.Prelude.{◌≡◌, ◌<◌, IfOk, length};
-ghost use Rattle.tc_rules.specs.Prelude.{IsBehaviours};
+//! A block followed by the component table, line by line, up to its first fault.
+ghost use Rattle.std.specs.Prelude.{◌≡◌, ◌<◌, ◌||◌, ◌↔◌, [], true, IfErr, IfNone, IfOk, IfSome, not};
+ghost use Rattle.tc_rules.specs.Prelude.{IsBehaviours, is_finish, is_wake, past_of};
+ghost use Rattle.tc_model.specs.{Inside.{AreWays, IsCallFault, IsDue, IsEndFault, IsEntryTaken, IsStartAmong}, Models.IsFollowed, Reasons.{CanCall, IsFirstFault}};
 
+use crate::given::Ways;
 use crate::reason::{Reason, Refusal};
 use std::alloc::Global;
 use tc_blocks::{Block, Line};
 use tc_course::Course;
-use tc_entry::{Args, Comp, Entry, Group, Name, NoMemory, Op, Reply, Run, Target};
+use tc_entry::{Comp, Entry, Name, NoMemory, Op, Reply, Run};
 use tc_step::STEPS;
 
 /// A run of a model.
@@ -19,157 +21,110 @@ pub(crate) struct ModelRun {
     pub(crate) is_named: bool,
     /// The component that it is started on, once it is.
     pub(crate) on: Option<Comp>,
-    /// What it is given, if it is started: its arguments in the block, and what it or a run that it starts uses besides.
-    pub(crate) given: Args,
-    /// The run that starts it, and how many components there are then.
-    by: Run,
-    there: u32,
-}
-
-/// The words before the one component that an operation names besides arguments, and this component, if it names one.
-pub(crate) fn named_by(op: &Op) -> Option<(&'static str, Comp)> {
-    let waits = match op {
-        Op::Wait { killed: true, .. } => "wait killed ",
-        _ => "wait done ",
-    };
-    match op {
-        Op::Start { comp, .. } => Some(("start ", *comp)),
-        Op::Stop(Group::One(comp)) => Some(("stop ", *comp)),
-        Op::Kill(Group::One(comp)) => Some(("kill ", *comp)),
-        Op::Running(Target::One(comp)) => Some(("running ", *comp)),
-        Op::Alive(Target::One(comp)) => Some(("alive ", *comp)),
-        Op::Done(Target::One(comp)) => Some(("done ", *comp)),
-        Op::Killed(Target::One(comp)) => Some(("killed ", *comp)),
-        Op::Wait {
-            target: Target::One(comp),
-            ..
-        } => Some((waits, *comp)),
-        _ => None,
-    }
+    /// What it is given: its arguments, and what it or a run that it starts uses besides.
+    pub(crate) given: Vec<Comp>,
+    /// How many arguments a start gives it at most.
+    arguments: usize,
 }
 
 /// Whether the operation is a step of a script.
-pub(crate) fn is_step(op: &Op) -> bool {
+pub(crate) fn is_step(op: &Op) -> bool
+    ensures { result ≡ not (is_wake op.now || is_finish op.now) }
+{
     !matches!(op, Op::Wake { .. } | Op::Finish)
 }
 
-// Gives a run the component, unless it can name it, and the run that starts it likewise. Or says why it cannot be given it.
-fn give(course: &Course, runs: &mut [ModelRun], run: Run, comp: Comp) -> Option<Reason>
-    requires { length runs.old ≡ course.now.behaviours }
-{
-    let mut run = run;
-    for _ in 0..runs.len() {
-        let place = usize::from(run.0);
-        if place >= runs.len() {
-            break;
+// Notes what a start says of the run that it names.
+fn note_start(runs: &mut [ModelRun], entry: &Entry) {
+    if let Op::Start { comp, run, args } = &entry.op
+        && let Some(named) = runs.get_mut(usize::from(run.0))
+    {
+        named.is_named = true;
+        named.arguments = named.arguments.max(args.as_slice().len());
+        if entry.reply.is_ok() {
+            named.on = Some(*comp);
         }
-        let own = &mut runs[place];
-        if comp.0 == 0 || own.on == Some(comp) || own.given.as_slice().contains(&comp) {
-            return None;
-        }
-        if course.known(run).bound().contains(&comp) {
-            return None;
-        }
-        if comp.0 >= own.there {
-            break;
-        }
-        if !own.given.push(comp) {
-            return Some(Reason::ManyArguments);
-        }
-        run = own.by;
     }
-    Some(Reason::NotGiven)
 }
 
-// Gives a run the components that an operation names. Or says why it cannot be given one.
-fn give_named(course: &Course, runs: &mut [ModelRun], run: Run, op: &Op) -> Option<Reason>
-    requires { length runs.old ≡ course.now.behaviours }
-{
-    if let Op::Start { args, .. } = op {
-        for comp in args.as_slice() {
-            if let Some(reason) = give(course, runs, run, *comp) {
-                return Some(reason);
-            }
-        }
+// Notes the name of a run's behaviour.
+fn note_name(runs: &mut [ModelRun], run: Run, name: &Name) {
+    if let Some(named) = runs.get_mut(usize::from(run.0)) {
+        named.name = Some(name.copy());
     }
-    give(course, runs, run, named_by(op)?.1)
 }
 
-// Takes in the entry if it is a start, by the course before it. Whether a script can spell it: the run is one of these, and
-// the main component's is given nothing.
-fn take_start(course: &Course, runs: &mut [ModelRun], entry: &Entry) -> bool {
-    let Op::Start { comp, run, args } = &entry.op else {
-        return true;
-    };
-    let Some(started) = runs.get_mut(usize::from(run.0)) else {
-        return false;
-    };
-    let mut number = args.as_slice().len();
-    if entry.reply.is_ok() {
-        number = number.max(started.given.as_slice().len());
-        started.on = Some(*comp);
-        started.given = args.copy();
-        started.by = entry.caller;
-        started.there = course.components();
-    }
-    started.is_named = true;
-    for _ in started.given.as_slice().len()..number {
-        let _ = started.given.push(Comp(0));
-    }
-    run.0 != 0 || number == 0
-}
-
-// Whether the entry can be what its run calls next: the Wake that is due, or if none is, whatever else.
-fn is_next(course: &Course, entry: &Entry) -> bool
+// Whether the caller runs, and the wake that is due is this call, or none is due.
+fn is_due(course: &Course, entry: &Entry) -> bool
     requires { entry.now.caller.0 < course.now.behaviours }
+    ensures { (result ≡ true) ↔ IsDue (past_of course.now) entry.now }
 {
-    match course.turn(&[], entry.caller) {
-        Some(Op::Finish) => !matches!(&entry.op, Op::Wake { .. }),
-        Some(wake) => wake.same(&entry.op) && !matches!(entry.reply, Reply::Parked),
-        None => false,
+    let known = course.known(entry.caller);
+    if known.comp().is_none() || known.has_left() {
+        return false;
+    }
+    match (known.wake(), &entry.op) {
+        (Some(wake), Op::Wake { .. }) => wake.same(&entry.op)
+            && !matches!(entry.reply, Reply::Parked),
+        (None, Op::Wake { .. }) | (Some(_), _) => false,
+        (None, _) => true,
     }
 }
 
-// Why no behaviour of a script calls this after the course, if none does.
-fn entry_fault(course: &Course, runs: &mut [ModelRun], entry: &Entry) -> Option<Reason>
-    requires { length runs.old ≡ course.now.behaviours }
+// Whether the operation starts none but a behaviour of so many, and gives nothing to the main component's.
+fn is_start(op: &Op, behaviours: u16) -> bool
+    ensures { (result ≡ true) ↔ IsStartAmong behaviours op.now }
+{
+    match op {
+        Op::Start { run, args, .. } => {
+            run.0 < behaviours && (run.0 != 0 || args.as_slice().is_empty())
+        }
+        _ => true,
+    }
+}
+
+// Whether a behaviour of a script can call this after the course.
+fn can_call(course: &Course, behaviours: u16, entry: &Entry) -> bool
+    requires { behaviours ≡ course.now.behaviours }
+    ensures { (result ≡ true) ↔ CanCall behaviours (past_of course.now) entry.now }
+{
+    entry.caller.0 < behaviours && is_due(course, entry) && is_start(&entry.op, behaviours)
+}
+
+// Why no script brings the entry after the course, apart from what it names.
+fn call_fault(course: &Course, behaviours: u16, entry: &Entry) -> Option<Reason>
+    requires { behaviours ≡ course.now.behaviours }
+    ensures { IsCallFault behaviours (past_of course.now) entry.now result }
 {
     if !course.would(entry.caller, &entry.op).same(&entry.reply) {
         return Some(Reason::NotLegal);
     }
-    if usize::from(entry.caller.0) >= runs.len() || !is_next(course, entry) {
+    if !can_call(course, behaviours, entry) {
         return Some(Reason::NotCalled);
     }
     if is_step(&entry.op) && course.known(entry.caller).called() >= STEPS {
         return Some(Reason::ManySteps);
     }
-    give_named(course, runs, entry.caller, &entry.op)
+    None
 }
 
-// The course with this line, if it is an entry; otherwise why it is none of a course.
-fn take_line(
+// The course with the entry; or why no script brings it.
+fn with_entry(
+    alloc: Global,
     course: Course,
-    runs: &mut [ModelRun],
-    line: &Line,
+    behaviours: u16,
+    ways: &mut Ways,
+    entry: &Entry,
 ) -> Result<Result<Course, Reason>, NoMemory>
-    requires { length runs.old ≡ course.behaviours }
-    ensures { IfOk result (λ r. IfOk r (λ c. c.behaviours ≡ course.behaviours)) }
+    requires behaviours { behaviours ≡ course.behaviours }
+    requires ways { AreWays behaviours (past_of course) ways.old }
+    ensures { IfOk result (IsEntryTaken behaviours (past_of course) entry.now ways.new) }
 {
-    let entry = match line {
-        Line::Entry(entry) => entry,
-        Line::Named { run, name } => {
-            if let Some(run) = runs.get_mut(usize::from(run.0)) {
-                run.name = Some(name.copy());
-            }
-            return Ok(Ok(course));
-        }
-        _ => return Ok(Ok(course)),
-    };
-    if let Some(reason) = entry_fault(&course, runs, entry) {
+    if let Some(reason) = call_fault(&course, behaviours, entry) {
         return Ok(Err(reason));
     }
-    if !take_start(&course, runs, entry) {
-        return Ok(Err(Reason::NotCalled));
+    if let Some(reason) = ways.take(alloc, &course, entry)? {
+        return Ok(Err(reason));
     }
     match course.with(entry.caller, entry.op.copy()) {
         Ok(course) => Ok(Ok(course)),
@@ -180,6 +135,7 @@ fn take_line(
 // Why the course, which the block is, is no complete one with its verdict, if it is none.
 fn end_fault(course: &Course, block: &Block) -> Option<Reason>
     requires { block.now.header.behaviours ≡ course.now.behaviours }
+    ensures { IsEndFault course.now.behaviours (past_of course.now) block.now.verdict result }
 {
     if course.verdict() != block.verdict {
         return Some(Reason::NotLegal);
@@ -192,57 +148,96 @@ fn end_fault(course: &Course, block: &Block) -> Option<Reason>
     None
 }
 
-// Follows the block from the opening of its test case. Its first line that no model has, and why, if it has one.
+// Follows the block from the opening of its test case. Its first fault, if it has one.
 fn follow_lines(
+    alloc: Global,
     opening: Course,
+    ways: &mut Ways,
     runs: &mut [ModelRun],
     block: &Block,
 ) -> Result<Option<Refusal>, NoMemory>
+    requires opening { past_of opening ≡ [] }
     requires behaviours { block.now.header.behaviours ≡ opening.behaviours }
-    requires runs { length runs.old ≡ opening.behaviours }
+    requires ways { AreWays opening.behaviours [] ways.old }
+    ensures followed { IfOk result (λ o. IfNone o (IsFollowed block.now)) }
+    ensures refused { IfOk result (λ o. IfSome o (IsFirstFault block.now)) }
 {
     let mut course = opening;
     let mut line = block.first_line;
     for each in block.lines.as_slice() {
-        line = line.saturating_add(1);
-        course = match take_line(course, runs, each)? {
-            Ok(course) => course,
-            Err(reason) => return Ok(Some(Refusal { line, reason })),
-        };
+        line = line.checked_add(1).ok_or(NoMemory)?;
+        match each {
+            Line::Entry(entry) => {
+                course = match with_entry(alloc, course, block.header.behaviours, ways, entry)? {
+                    Ok(course) => course,
+                    Err(reason) => return Ok(Some(Refusal { line, reason })),
+                };
+                note_start(runs, entry);
+            }
+            Line::Named { run, name } => note_name(runs, *run, name),
+            _ => {}
+        }
     }
-    line = line.saturating_add(1);
+    line = line.checked_add(1).ok_or(NoMemory)?;
     Ok(end_fault(&course, block).map(|reason| Refusal { line, reason }))
 }
 
-/// The runs of the block's model. Or the block's first line that no model has, and why.
-pub(crate) fn follow(
-    alloc: Global,
-    block: &Block,
-) -> Result<Result<Vec<ModelRun>, Refusal>, NoMemory>
-    requires { IsBehaviours block.now.header.behaviours }
-{
+// The runs of so many behaviours, of which nothing is known.
+fn unnamed_runs(alloc: Global, behaviours: u16) -> Result<Vec<ModelRun>, NoMemory> {
     let mut runs = Vec::new(alloc);
-    for run in 0..block.header.behaviours {
+    for run in 0..behaviours {
         runs.push(ModelRun {
             run: Run(run),
             name: None,
             is_named: run == 0,
             on: None,
-            given: Args::new(),
-            by: Run(0),
-            there: 0,
+            given: Vec::new(alloc),
+            arguments: 0,
         })?;
     }
-    let opening = Course::opening(alloc, block.header.behaviours)?;
-    if let Some(refusal) = follow_lines(opening, runs.as_mut_slice(), block)? {
-        return Ok(Err(refusal));
+    Ok(runs)
+}
+
+// Gives the run this, and the main component in place of what no start needs.
+fn give_run(run: &mut ModelRun, given: Vec<Comp>) -> Result<(), NoMemory> {
+    run.given = given;
+    for _ in run.given.len()..run.arguments {
+        run.given.push(Comp(0))?;
     }
+    Ok(())
+}
+
+// Gives each run what it is given, and leaves out the last runs that no start names.
+fn give_runs(runs: &mut Vec<ModelRun>, given: Vec<Vec<Comp>>) -> Result<(), NoMemory> {
     let mut used = 0;
-    for (place, run) in runs.iter().enumerate() {
-        if run.is_named {
-            used = place + 1;
+    for (place, given) in given.into_iter().enumerate() {
+        if let Some(run) = runs.get_mut(place) {
+            give_run(run, given)?;
+            if run.is_named {
+                used = place + 1;
+            }
         }
     }
     runs.truncate(used);
+    Ok(())
+}
+
+/// The runs of the block's model. Or the block's first fault.
+pub(crate) fn follow(
+    alloc: Global,
+    block: &Block,
+) -> Result<Result<Vec<ModelRun>, Refusal>, NoMemory>
+    requires { IsBehaviours block.now.header.behaviours }
+    ensures followed { IfOk result (λ r. IfOk r (λ runs. IsFollowed block.now)) }
+    ensures refused { IfOk result (λ r. IfErr r (IsFirstFault block.now)) }
+{
+    let behaviours = block.header.behaviours;
+    let mut runs = unnamed_runs(alloc, behaviours)?;
+    let mut ways = Ways::opening(alloc, behaviours)?;
+    let opening = Course::opening(alloc, behaviours)?;
+    if let Some(refusal) = follow_lines(alloc, opening, &mut ways, runs.as_mut_slice(), block)? {
+        return Ok(Err(refusal));
+    }
+    give_runs(&mut runs, ways.into_given())?;
     Ok(Ok(runs))
 }

@@ -3,6 +3,7 @@
 
 mod certified;
 mod following;
+mod given;
 mod models;
 mod naming;
 mod reason;

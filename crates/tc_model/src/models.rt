@@ -1,7 +1,7 @@
 //! The models of blocks.
 ghost use Rattle.std.specs.Prelude.{◌≡◌, ◌≤◌, ◌++◌, [], IfOk, OnOk, is_some, length, map};
 ghost use Rattle.std.specs.List.{flat_map};
-ghost use Rattle.tc_model.specs.Models.{AreModels, attempt_note, written};
+ghost use Rattle.tc_model.specs.Models.{AreAttempts, AreModels, AreTried, IsTried, attempt_note, of_block as spec_of_block, unread, written};
 
 use crate::certified::are_spelled;
 use crate::following::follow;
@@ -29,7 +29,9 @@ pub struct Attempt {
 }
 
 // A refusal of a whole block.
-fn of_block(block: &Block, reason: Reason) -> Refusal {
+fn of_block(block: &Block, reason: Reason) -> Refusal
+    ensures { result ≡ spec_of_block block.now reason }
+{
     Refusal {
         line: block.first_line,
         reason,
@@ -42,9 +44,12 @@ fn append_model(
     text: &mut Vec<u8>,
     limit: usize,
     cases: &mut IndexSet<Name>,
+    written: usize,
     block: &Block,
-) -> Result<Option<Refusal>, NoMemory> {
-    if cases.len() >= TEST_CASES {
+) -> Result<Option<Refusal>, NoMemory>
+    ensures { IfOk result (IsTried written block.now) }
+{
+    if written >= TEST_CASES {
         return Ok(Some(of_block(block, Reason::ManyCases)));
     }
     if !is_behaviours(usize::from(block.header.behaviours)) {
@@ -70,27 +75,41 @@ fn append_model(
 }
 
 // Each block with what came of it, and the script of the models, of at most that many bytes.
+#[tactic(auto, using(crate::proofs::Trying::are_tried))]
 fn attempt_all(alloc: Global, blocks: Vec<Block>, limit: usize) -> Result<Models, NoMemory>
-    ensures { IfOk result (λ m. map (λ t. t.block) m.attempts.items ≡ blocks.items) }
+    ensures blocks { IfOk result (λ m. map (λ t. t.block) m.attempts.items ≡ blocks.items) }
+    ensures tried { IfOk result (λ m. AreTried 0 m.attempts.items) }
 {
     let mut attempts = Vec::new(alloc);
     let mut text = Vec::new(alloc);
     let mut cases = IndexSet::new(alloc);
+    let mut written = 0;
     for block in blocks {
-        let refusal = append_model(alloc, &mut text, limit, &mut cases, &block)?;
+        let refusal = append_model(alloc, &mut text, limit, &mut cases, written, &block)?;
+        if refusal.is_none() {
+            written += 1;
+        }
         attempts.push(Attempt { block, refusal })?;
     }
     Ok(Models { attempts, text })
 }
 
-// Refuses all.
+// Refuses the block, if it is not refused.
+fn refuse(attempt: &mut Attempt)
+    ensures { attempt.new ≡ unread attempt.old }
+{
+    let other = of_block(&attempt.block, Reason::NotRead);
+    attempt.refusal = Some(attempt.refusal.unwrap_or(other));
+}
+
+// Refuses all blocks that are not refused.
 fn refuse_all(attempts: &mut [Attempt])
+    ensures all { attempts.new ≡ map unread attempts.old }
     ensures blocks { map (λ t. t.block) attempts.new ≡ map (λ t. t.block) attempts.old }
     ensures none { written attempts.new ≡ [] }
 {
     for attempt in attempts.iter_mut() {
-        let other = of_block(&attempt.block, Reason::NotRead);
-        attempt.refusal = Some(attempt.refusal.unwrap_or(other));
+        refuse(attempt);
     }
 }
 
@@ -100,6 +119,7 @@ pub fn models_of(alloc: Global, blocks: Vec<Block>, limit: usize) -> Result<Mode
     ensures blocks { IfOk result (λ m. map (λ t. t.block) m.attempts.items ≡ blocks.items) }
     ensures models { IfOk result (λ m. AreModels m.text.items (written m.attempts.items)) }
     ensures short { IfOk result (λ m. length m.text.items ≤ limit) }
+    ensures attempts { IfOk result (λ m. AreAttempts m.attempts.items) }
 {
     let mut models = attempt_all(alloc, blocks, limit)?;
     let is_long = models.text.len() > limit;

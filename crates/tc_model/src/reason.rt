@@ -5,28 +5,31 @@ ghost use Rattle.tc_model.specs.Models.{reason_text, refusal_line};
 use tc_entry::{Name, NoMemory};
 use tc_text::{append_number, append_text};
 
-/// Why a block has no model.
+/// Why a block has no model: of several the first in this order. From `NotLegal` to `NotOver` it is a fault of a line, and the
+/// first line that has one counts; each other is of the whole block.
 #[derive(Clone, Copy, PartialEq, Eq, Debug)]
 pub enum Reason {
-    /// A reply or the verdict is not the component table's.
-    NotLegal,
-    /// A run was started, and its pass has not ended.
-    NotOver,
-    /// No script makes the call here: its run is not running, another call is due, or it starts no behaviour.
-    NotCalled,
-    /// The behaviour has as many steps as a script may give it.
-    ManySteps,
-    /// The run has not made the component, and could not be given it.
-    NotGiven,
-    /// The run would have to be given more components than a start has arguments.
-    ManyArguments,
-    /// The test case has more behaviours than a script may give it.
-    ManyBehaviours,
     /// The script has as many test cases as it may have.
     ManyCases,
-    /// The script would have more bytes than it may have.
+    /// The block has no behaviour, or more than a test case may have.
+    ManyBehaviours,
+    /// The reply is not the component table's; in the last line, the verdict.
+    NotLegal,
+    /// No behaviour of a script makes the call here: its run was not started, or its pass has ended; it is no wake, and one is due; it
+    /// is a wake that is not due, or that is parked again; or it starts a run that is none of the block's, or gives the main
+    /// component's run arguments.
+    NotCalled,
+    /// The call is a step, and the run has made as many as a behaviour may have.
+    ManySteps,
+    /// For the call a run must be given a component that was not there when the run was started, or nothing started the run.
+    NotGiven,
+    /// For the call a run must be given a component, and is given more of them than a start may have arguments.
+    ManyArguments,
+    /// At the end a run could still call.
+    NotOver,
+    /// No line has a fault, and with the test case the script would have more bytes than it may have.
     LongScript,
-    /// What was written is not read as the models of the blocks.
+    /// No line has a fault, and what was written is not read as the models of the blocks. No block has a model then.
     NotRead,
 }
 
@@ -36,14 +39,14 @@ impl Reason {
         ensures { result.now ≡ reason_text self }
     {
         match self {
+            Reason::ManyCases => "too many test cases",
+            Reason::ManyBehaviours => "too many behaviours",
             Reason::NotLegal => "not what the table gives",
-            Reason::NotOver => "a behaviour has not ended",
             Reason::NotCalled => "a call that no script makes here",
             Reason::ManySteps => "too many steps",
             Reason::NotGiven => "a component that the run is not given",
             Reason::ManyArguments => "too many arguments",
-            Reason::ManyBehaviours => "too many behaviours",
-            Reason::ManyCases => "too many test cases",
+            Reason::NotOver => "a behaviour has not ended",
             Reason::LongScript => "too long a script",
             Reason::NotRead => "not read as its model",
         }

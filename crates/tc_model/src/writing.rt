@@ -1,5 +1,6 @@
 //! The text of a model.
-use crate::following::{ModelRun, is_step, named_by};
+use crate::following::{ModelRun, is_step};
+use crate::given::target;
 use std::alloc::Global;
 use tc_blocks::Line;
 use tc_entry::{Comp, Entry, Name, NoMemory, Op, Reply};
@@ -60,6 +61,21 @@ fn append_name(out: &mut Vec<u8>, name: &Option<Name>) -> Result<(), NoMemory> {
     Ok(())
 }
 
+// The words of an operation before the component that it names.
+fn words_of(op: &Op) -> &'static str {
+    match op {
+        Op::Start { .. } => "start ",
+        Op::Stop(_) => "stop ",
+        Op::Kill(_) => "kill ",
+        Op::Running(_) => "running ",
+        Op::Alive(_) => "alive ",
+        Op::Done(_) => "done ",
+        Op::Killed(_) => "killed ",
+        Op::Wait { killed: true, .. } => "wait killed ",
+        _ => "wait done ",
+    }
+}
+
 // Appends the step of an entry, by a behaviour on this component.
 fn append_step(
     out: &mut Vec<u8>,
@@ -70,10 +86,10 @@ fn append_step(
     if let Op::Create { alive, name } = &entry.op {
         return append_create(out, *alive, name, entry.reply);
     }
-    let Some((words, comp)) = named_by(&entry.op) else {
+    let Some(comp) = target(&entry.op) else {
         return write_op(out, &entry.op);
     };
-    append_text(out, words)?;
+    append_text(out, words_of(&entry.op))?;
     append_comp(out, own, comp)?;
     let Op::Start { run, args, .. } = &entry.op else {
         return Ok(());

@@ -5,14 +5,15 @@ use Rattle.tc_blocks.specs.{declared.block.Block.Block, Prelude.HoldsOfBlocks}
 use Rattle.tc_command.specs.declared.task.Choice.{Choice}
 use Rattle.tc_answer.specs.{Prelude.have_names, declared.{fault.RunFault.RunFault, limits.TheConstants.SCRIPT_LIMIT, reply.Answer.Answer}}
 use Rattle.tc_judge.specs.Prelude.{RefusesHistory, counting, is_chosen}
-use Rattle.tc_model.specs.{Prelude.{AreModels, attempt_note, written}, declared.models.Attempt.Attempt}
+use Rattle.tc_model.specs.{Prelude.{AreAttempts, AreModels, attempt_note, written}, declared.models.Attempt.Attempt}
 
 -- Of these blocks those that have a model are written as a script, which is not too long to be read. Of each other is said which line no
--- model has, and why. The status is 3 if there is one.
+-- model has, and why: that is its first fault. The status is 3 if there is one.
 pub record AnswersBlocks (blocks : List Block) (a : Answer) : Type 0 where
   pub attempts : List Attempt
   pub of_blocks : map (λ t. t.block) attempts ≡ blocks
   pub models : AreModels a.out (written attempts)
+  pub tried : AreAttempts attempts
   pub short : length a.out ≤ SCRIPT_LIMIT
   pub told : a.told ≡ flat_map attempt_note attempts
   pub status : a.status ≡ (if length (flat_map attempt_note attempts) == 0 then 0 else 3)

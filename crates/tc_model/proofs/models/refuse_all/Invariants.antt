@@ -1,9 +1,6 @@
-use Rattle.std.proofs.Common.{◌≡◌, [], map, take}
-use Rattle.tc_model.specs.{Models.written, declared.models.Attempt.Attempt}
+use Rattle.std.proofs.Common.{◌≡◌, ◌++◌, drop, map, take}
+use Rattle.tc_model.specs.Models.{unread}
 use Rattle.tc_model.proofs.models.refuse_all.Given as goal
 
 abbrev pub invariant-loop-attempt : goal.invariant-loop-attempt
-invariant-loop-attempt l = record {
-  blocks : map (λ (t : Attempt). t.block) l.attempts ≡ map (λ (t : Attempt). t.block) l.fn.attempts;
-  none : written (take l.attempt-index l.attempts) ≡ [];
-}
+invariant-loop-attempt l = l.attempts ≡ map unread (take l.attempt-index l.fn.attempts) ++ drop l.attempt-index l.fn.attempts

@@ -1,0 +1,64 @@
+-- The runs that lack a component, one after the other.
+use Rattle.std.proofs.{Common.{ℕ, if◌then◌else◌, ◌≡◌, ◌≢◌, ◌==◌, ◌||◌, ◌<◌, ◌≤◌, ◌+◌, Bool, true, false, List, [], ◌∷◌, get_or, length, map, not, refl, ap, sym, ◌∙◌, append_assoc, arith, take}, lemmas.{Bool.Decides.nat_tests, List.{Folds.{list_any_at, list_any_more}, Sums.{take_while-cons}, take_all}}}
+use Rattle.std.specs.List.{list_any, take_while}
+use Rattle.tc_rules.specs.Prelude.{Comp, Entry, components, is_in}
+use Rattle.tc_model.specs.{Naming.{can_name, lacking, starters, starts}, declared.given.Starter.Starter}
+
+-- ---- whether a component is one of some
+
+-- one of the components has this number
+abbrev pub has_comp : ℕ → List Comp → Bool
+has_comp c cs = list_any (λ (d : Comp). c == d.0) cs
+
+-- that is what the component table's word says of their numbers
+is_in_any : (c : ℕ) (cs : List Comp) → is_in c (map (λ d. d.0) cs) ≡ has_comp c cs
+is_in_any c [] = refl
+is_in_any c (d ∷ cs) = ap (λ t. (c == d.0) || t) (is_in_any c cs)
+
+-- the next component is the one that is looked for
+pub in_at : (cs : List Comp) (i : ℕ) (d : Comp) (c : ℕ) → i < length cs → (get_or cs i d).0 ≡ c → is_in c (map (λ d. d.0) cs) ≡ true
+in_at cs i d c within here = is_in_any c cs ∙ list_any_at (λ (x : Comp). c == x.0) cs i d within (grind (arith, nat_tests))
+
+-- it is another
+pub not_in_more : (cs : List Comp) (i : ℕ) (d : Comp) (c : ℕ) → i < length cs → (get_or cs i d).0 ≢ c → has_comp c (take i cs) ≡ false →
+    has_comp c (take (i + 1) cs) ≡ false
+not_in_more cs i d c within other before =
+    let no : (c == (get_or cs i d).0) ≡ false = grind (arith, nat_tests) in
+    rw (list_any_more (λ (x : Comp). c == x.0) cs i d within, before, no) refl
+
+-- there is no next one
+pub not_in_all : (cs : List Comp) (i c : ℕ) → length cs ≤ i → has_comp c (take i cs) ≡ false → is_in c (map (λ d. d.0) cs) ≡ false
+not_in_all cs i c whole none = is_in_any c cs ∙ (ap (has_comp c) (sym (take_all i cs whole)) ∙ none)
+
+pub ruleset in_rules = (in_at, not_in_more, not_in_all)
+
+-- ---- who lacks a component
+
+-- the runs before the first that can name component c
+abbrev before_namer : List Entry → ℕ → List Starter → List Starter
+before_namer now c runs = take_while (λ (x : Starter). not (can_name now x.run.0 c)) runs
+
+-- there is none before a run that can name it
+first_can : (now : List Entry) (c : ℕ) (s : Starter) (rest : List Starter) → can_name now s.run.0 c ≡ true → before_namer now c (s ∷ rest) ≡ []
+first_can now c s rest can = take_while-cons (λ (x : Starter). not (can_name now x.run.0 c)) s rest ∙ rw can refl
+
+-- the same of such a run and those that started it
+none_lacks : (now past : List Entry) (b c : ℕ) → can_name now b c ≡ true → before_namer now c (starters past b) ≡ []
+none_lacks now [] b c can = first_can now c (record { run = record { 0 = b }; there = 0 }) [] can
+none_lacks now (e ∷ past) b c can = by_start (starts past e b) (none_lacks now past b c can)
+  where
+    by_start : (t : Bool) → before_namer now c (starters past b) ≡ [] →
+        before_namer now c (if t then record { run = record { 0 = b }; there = components past } ∷ starters past e.caller.0 else starters past b) ≡ []
+    by_start true before = first_can now c (record { run = record { 0 = b }; there = components past }) (starters past e.caller.0) can
+    by_start false before = before
+
+-- so none of them lacks it
+pub lacking_none : (past : List Entry) (b c : ℕ) → can_name past b c ≡ true → lacking past b c ≡ []
+lacking_none past b c can = none_lacks past past b c can
+
+-- a run that cannot name it comes before those that started it
+pub first_lacks : (past : List Entry) (c : ℕ) (s : Starter) (rest : List Starter) → can_name past s.run.0 c ≡ false →
+    take_while (λ (x : Starter). not (can_name past x.run.0 c)) (s ∷ rest) ≡ s ∷ take_while (λ (x : Starter). not (can_name past x.run.0 c)) rest
+first_lacks past c s rest cannot = take_while-cons (λ (x : Starter). not (can_name past x.run.0 c)) s rest ∙ rw cannot refl
+
+pub ruleset lacking_rules = (append_assoc, first_lacks)
