@@ -21,7 +21,7 @@ known_or a true known = known refl
 known_or a false known = refl
 
 -- after a name is added, it is there, and what was there
-among_added : (n k : Word) (ns : List Word) → among n (add k ns) ≡ (is_text n k || among n ns)
+pub among_added : (n k : Word) (ns : List Word) → among n (add k ns) ≡ (is_text n k || among n ns)
 unfolding among
 among_added n k ns = by (among k ns) refl
   where

@@ -1,5 +1,5 @@
 -- What the functions inside of this crate say, which no clause of the program names.
-use Rattle.std.specs.{Prelude.{ℕ, ◌≡◌, ◌≢◌, ◌&&◌, ◌≤◌, ◌+◌, ◌||◌, filter, is_some, nat_lt, slice_get, slice_index_or, All, Bool, true, false, Option, Some, None, List, [], ◌∷◌, ◌++◌, length, map, reverse, take, codes, if◌then◌else◌, not}, List.{AllZip, find, flat_map, list_any}}
+use Rattle.std.specs.{Prelude.{ℕ, ◌≡◌, ◌≢◌, ◌&&◌, ◌≤◌, ◌+◌, ◌||◌, filter, is_some, nat_lt, All, Bool, true, false, Option, Some, None, List, [], ◌∷◌, ◌++◌, length, map, reverse, codes, if◌then◌else◌, not}, List.{AllZip, find, flat_map, list_any}}
 use Rattle.tc_entry.specs.declared.limits.TheConstants.{BEHAVIOURS}
 use Rattle.tc_rules.specs.Prelude.{Verdict, Entry, Kept, StandsFor, answer, name_of, Reply}
 use Rattle.tc_text.specs.Prelude.{reply_text}
@@ -10,8 +10,8 @@ use Rattle.tc_blocks.specs.declared.{block.Block.Block, header.Header.Header, li
 use Rattle.tc_report.specs.{Prelude.{block_summary, blocks_report, replayed_text, said_in, verdicts_closing}, declared.summary.Summary.Summary}
 use Rattle.tc_exec.specs.declared.test_case.Case.{Case}
 use Rattle.tc_command.specs.declared.task.{Choice.Choice, ReportForm.ReportForm}
-use Rattle.tc_answer.specs.{Prelude.{AreChosen, blocks_part, have_names, is_asked, script_part, CaseView}, Inside.{place_text, IsCaseOf}}
-use Rattle.tc_judge.specs.{Check.{AreAllLegal, Checks, IsLegalBlock, legal_line, counting, is_passing, put}, Compared.{AreJudged, IsCompared, IsJudged, has_block_named, has_later, missing}, declared.{compare.{Comparing.Comparing, Comparison.Comparison, Wrong.Wrong}, judged.{Judged.Judged, Recorded.Recorded}, kept.{Nothing.Nothing, Whole.Whole}, passed.Seen.Seen, playing.{Difference.Difference, Judgement.Judgement, Playing.Playing}}}
+use Rattle.tc_answer.specs.{Prelude.{AreChosen, blocks_part, have_names, is_asked, script_part}, Inside.{place_text, IsCaseOf}}
+use Rattle.tc_judge.specs.{Check.{AreAllLegal, Checks, IsLegalBlock, legal_line, counting, is_passing, put}, Compared.{IsCompared, IsJudged, has_block_named, has_later, missing}, declared.{compare.{Comparing.Comparing, Comparison.Comparison, Wrong.Wrong}, judged.{Judged.Judged, Recorded.Recorded}, kept.{Nothing.Nothing, Whole.Whole}, passed.Seen.Seen, playing.{Difference.Difference, Judgement.Judgement, Playing.Playing}}}
 
 -- the name of a block
 abbrev pub block_name : Block → Word
@@ -233,7 +233,6 @@ pub record AreComparedIn (choice : Choice) (text : List ℕ) (js : List (Judged 
 
 -- as much is kept of each test case, and its behaviours are few
 pub record IsWhole (c : Comparing) : Type 0 where
-  pub met : length c.met.items ≡ length c.names.keys
   pub ready : length c.ready.items ≡ length c.names.keys
   pub few : All HasFewJobs c.ready.items
 
@@ -241,31 +240,13 @@ pub record IsWhole (c : Comparing) : Type 0 where
 pub record StandsBeside (cases : CampaignView) (before : List Block) (c : Comparing) : Type 0 where
   pub names : c.names.keys ≡ map (λ t. t.0) cases
   pub ready : AllZip IsCaseOf cases c.ready.items
-  pub met : (p : ℕ) (t : CaseView) → slice_get cases p ≡ Some t → slice_index_or c.met.items p false ≡ has_block_named before t.0
+  pub met : (name : Word) → among name c.met.keys ≡ has_block_named before name
   pub next : (p : ℕ) → has_later cases before p ≡ nat_lt (p + 1) c.next
 
--- a block was taken in after those before it, and this is wrong with it, if something is
-abbrev pub Judges : Comparing → Judged Whole → Option Wrong → Comparing → Type 0
-Judges c j wrong after =
-    (cases : CampaignView) (before : List Block) (b : Block) → IsJudgedBlock IsWholeOfBlock b j → has_twice (map (λ t. t.0) cases) ≡ false
-    → StandsBeside cases before c → StandsBeside cases (b ∷ before) after × IsJudged cases before b wrong
+-- this is wrong with a block after those before it, if something is
+abbrev pub Judges : Comparing → Judged Whole → Option Wrong → Type 0
+Judges c j wrong = (cases : CampaignView) (before : List Block) (b : Block) → IsJudgedBlock IsWholeOfBlock b j → StandsBeside cases before c → IsJudged cases before b wrong
 
--- the same, and what is wrong with it is said after what is said of those before it
-abbrev pub SaysNext : Comparing → Judged Whole → List ℕ → Comparing → List ℕ → Type 0
-SaysNext c j out after new =
-    (cases : CampaignView) (before : List Block) (b : Block) → IsJudgedBlock IsWholeOfBlock b j → has_twice (map (λ t. t.0) cases) ≡ false
-    → StandsBeside cases before c → AreJudged cases before out → StandsBeside cases (b ∷ before) after × AreJudged cases (b ∷ before) new
-
--- the test case at this place was added, if no block has its name
-abbrev pub AddsIfMissing : ℕ → Comparing → List Word → List Word → Type 0
-AddsIfMissing p c old new =
-    (cases : CampaignView) (before : List Block) → StandsBeside cases before c → (t : CaseView) → slice_get cases p ≡ Some t
-    → new ≡ old ++ missing before (t ∷ [])
-
--- of the first of the test cases, that many, these are missing
-abbrev pub AreMissingTo : ℕ → Comparing → List Word → Type 0
-AreMissingTo n c names = (cases : CampaignView) (before : List Block) → StandsBeside cases before c → names ≡ missing before (take n cases)
-
--- these are missing
-abbrev pub AreMissing : Comparing → List Word → Type 0
-AreMissing c names = (cases : CampaignView) (before : List Block) → StandsBeside cases before c → names ≡ missing before cases
+-- a block of this name was taken in
+abbrev pub Meets : Word → Comparing → Comparing → Type 0
+Meets name c after = (cases : CampaignView) (before : List Block) (b : Block) → name ≡ b.header.name → StandsBeside cases before c → StandsBeside cases (b ∷ before) after

@@ -1,18 +1,19 @@
 //! The blocks of evidence next to the test cases of their script.
-ghost use Rattle.std.specs.Prelude.{◌≡◌, ◌↔◌, ◌≤◌, ◌<◌, ◌++◌, ◌∷◌, [], List, false, true, IfErr, IfOk, IfSome, OnOk, length, map};
+ghost use Rattle.std.specs.Prelude.{◌≡◌, ◌↔◌, ◌≤◌, ◌++◌, [], List, true, IfErr, IfOk, OnOk, filter, length, map, not};
+ghost use Rattle.std.specs.Option.{option_map_or};
 ghost use Rattle.std.specs.List.{AllZip, flat_map};
 ghost use Rattle.tc_entry.specs.declared.limits.TheConstants.{BEHAVIOURS};
 ghost use Rattle.tc_blocks.specs.declared.block.Block.{Block};
-ghost use Rattle.tc_reader.specs.Prelude.{CampaignView};
+ghost use Rattle.tc_reader.specs.Prelude.{CampaignView, among};
 ghost use Rattle.tc_answer.specs.Prelude.{script_part};
 ghost use Rattle.tc_answer.specs.Inside.{AreReady, IsCaseOf};
-ghost use Rattle.tc_judge.specs.{Compared.IsCheckedAgainst, Compared.IsCourseOf, Compared.IsReportedAgainst, Compared.RefusesAgainst, Compared.note, Compared.place_in, Compared.wrong_text, Inside.AddsIfMissing, Inside.AreComparable, Inside.AreComparedIn, Inside.AreMissing, Inside.Finds, Inside.IsJudgedBlock, Inside.IsWhole, Inside.IsWholeOfBlock, Inside.Judges, Inside.SaysNext, Inside.StandsBeside, declared.compare.Wrong.TheVariants.Missing};
+ghost use Rattle.tc_judge.specs.{Compared.IsCheckedAgainst, Compared.IsCourseOf, Compared.IsReportedAgainst, Compared.RefusesAgainst, Compared.note, Compared.wrong_text, Inside.AreComparable, Inside.AreComparedIn, Inside.Finds, Inside.IsJudgedBlock, Inside.IsWhole, Inside.IsWholeOfBlock, Inside.Judges, Inside.Meets, Inside.StandsBeside, declared.compare.Wrong.TheVariants.Missing};
 
 use crate::check::checked_status;
-use crate::judged::{Judged, first_illegal, judge_text};
+use crate::judged::{Judged, first_illegal, judge_text, place_among};
 use crate::kept::Whole;
 use crate::lines::printed_lines;
-use crate::passed::add_name;
+use crate::passed::{add_name, has_name};
 use crate::report::{noted_status, report_whole};
 use indexmap::IndexSet;
 use std::alloc::Global;
@@ -55,13 +56,15 @@ impl Wrong {
     }
 }
 
-// Appends the line that says what is wrong with the test case of this name; if memory runs out, a part of it.
-fn append_note(out: &mut Vec<u8>, name: &Name, wrong: Wrong) -> Result<(), NoMemory>
-    ensures { OnOk result (out.new.items ≡ out.old.items ++ note name.now wrong) }
+// Appends the line that says what is wrong with the test case of this name, if something is; if memory runs out, a part of it.
+fn append_note(out: &mut Vec<u8>, name: &Name, wrong: Option<Wrong>) -> Result<(), NoMemory>
+    ensures { OnOk result (out.new.items ≡ out.old.items ++ option_map_or (note name.now) wrong []) }
 {
-    append_text(out, wrong.text())?;
-    out.extend_from_slice(name.bytes())?;
-    out.push(b'\n')?;
+    if let Some(wrong) = wrong {
+        append_text(out, wrong.text())?;
+        out.extend_from_slice(name.bytes())?;
+        out.push(b'\n')?;
+    }
     Ok(())
 }
 
@@ -87,15 +90,15 @@ fn names_of(alloc: Global, cases: &[Case<Script>]) -> Result<IndexSet<Name>, NoM
     Ok(names)
 }
 
-/// Test cases of a script, and of which of them there were blocks so far.
+/// Test cases of a script, and which blocks there were so far.
 #[derive(Drop)]
 pub(crate) struct Comparing {
     /// The test cases, in their order.
     ready: Vec<Case<Script>>,
     /// The name of each.
     names: IndexSet<Name>,
-    /// Whether a block had the name of each.
-    met: Vec<bool>,
+    /// The names that the blocks had.
+    met: IndexSet<Name>,
     /// One more than the place of the last test case that a block had the name of; 0 if there was none.
     next: usize,
 }
@@ -107,93 +110,52 @@ impl Comparing {
         ensures whole { IfOk result IsWhole }
         ensures beside { IfOk result (λ c. (cases : CampaignView) → AllZip IsCaseOf cases ready.items → StandsBeside cases [] c) }
     {
-        let names = names_of(alloc, ready.as_slice())?;
-        let met = vec![in alloc; false; ready.len()]?;
         Ok(Comparing {
+            names: names_of(alloc, ready.as_slice())?,
             ready,
-            names,
-            met,
+            met: IndexSet::new(alloc),
             next: 0,
         })
     }
 
-    // The place of the test case of this name.
-    #[tactic(auto, unfolding(tc_reader::specs::Words::is_text))]
-    fn place_of(&self, name: &Name) -> Option<usize>
-        ensures is { (cases : CampaignView) → self.now.names.keys ≡ map (λ t. t.0) cases → result ≡ place_in cases name.now }
-        ensures within { IfSome result (λ p. p < length self.now.names.keys) }
+    // What is wrong with the next block, if something is.
+    fn wrong_with(&self, alloc: Global, block: &Judged<Whole>) -> Result<Option<Wrong>, NoMemory>
+        requires { IsWhole self.now }
+        ensures { IfOk result (Judges self.now block.now) }
     {
-        self.names.get_index_of(name)
-    }
-
-    // Takes the next block in, and says what is wrong with it, if something is.
-    fn take(&mut self, alloc: Global, block: &Judged<Whole>) -> Result<Option<Wrong>, NoMemory>
-        requires { IsWhole self.old }
-        ensures whole { OnOk result (IsWhole self.new) }
-        ensures judged { IfOk result (λ wrong. Judges self.old block.now wrong self.new) }
-    {
-        let Some(place) = self.place_of(&block.name) else {
+        let Some(place) = place_among(&self.names, &block.name) else {
             return Ok(Some(Wrong::Unknown));
         };
-        if self.met[place] {
+        if has_name(&self.met, &block.name) {
             return Ok(Some(Wrong::Twice));
         }
-        self.met[place] = true;
         if place + 1 < self.next {
             return Ok(Some(Wrong::OutOfOrder));
         }
-        self.next = place + 1;
-        if is_course_of(alloc, self.ready[place].jobs.as_slice(), block)? {
-            Ok(None)
-        } else {
-            Ok(Some(Wrong::NoCourse))
-        }
+        let is = is_course_of(alloc, self.ready[place].jobs.as_slice(), block)?;
+        Ok((!is).then_some(Wrong::NoCourse))
     }
 
-    // Takes the next block in, and appends the line that says what is wrong with it, if something is; if memory runs out, a
-    // part of it.
-    #[tactic(auto, using(crate::proofs::Beside::saying_rules))]
-    fn append_judged(
-        &mut self,
-        alloc: Global,
-        out: &mut Vec<u8>,
-        block: &Judged<Whole>,
-    ) -> Result<(), NoMemory>
+    // Takes the name of the next block in.
+    fn meet(&mut self, name: &Name) -> Result<(), NoMemory>
         requires { IsWhole self.old }
         ensures whole { OnOk result (IsWhole self.new) }
-        ensures says { OnOk result (SaysNext self.old block.now out.old.items self.new out.new.items) }
+        ensures meets { OnOk result (Meets name.now self.old self.new) }
     {
-        if let Some(wrong) = self.take(alloc, block)? {
-            append_note(out, &block.name, wrong)?;
+        if let Some(place) = place_among(&self.names, name) {
+            self.next = self.next.max(place + 1);
         }
-        Ok(())
-    }
-
-    // Adds the name of the test case at this place, if no block had it.
-    #[tactic(auto, using(crate::proofs::Beside::missing_rules))]
-    fn add_if_missing(&self, missing: &mut Vec<Name>, place: usize) -> Result<(), NoMemory>
-        requires whole { IsWhole self.now }
-        requires within { place < length self.now.names.keys }
-        ensures { OnOk result (AddsIfMissing place self.now missing.old.items missing.new.items) }
-    {
-        if self.met[place] {
-            return Ok(());
-        }
-        missing.push(self.names.as_slice()[place].copy())?;
+        add_name(&mut self.met, name)?;
         Ok(())
     }
 
     // The names of the test cases that no block had, in their order.
-    #[tactic(auto, using(crate::proofs::Beside::missing_rules))]
     fn missing(&self, alloc: Global) -> Result<Vec<Name>, NoMemory>
-        requires { IsWhole self.now }
-        ensures { IfOk result (λ v. AreMissing self.now v.items) }
+        ensures { IfOk result (λ v. v.items ≡ filter (λ n. not (among n self.now.met.keys)) self.now.names.keys) }
     {
-        let mut missing = Vec::new(alloc);
-        for place in 0..self.names.len() {
-            self.add_if_missing(&mut missing, place)?;
-        }
-        Ok(missing)
+        let names = self.names.iter();
+        let missing = names.filter(|name| !has_name(&self.met, name));
+        Ok(missing.map(|name| name.copy()).collect(alloc)?)
     }
 }
 
@@ -202,7 +164,7 @@ fn append_missing(out: &mut Vec<u8>, missing: &[Name]) -> Result<(), NoMemory>
     ensures { OnOk result (out.new.items ≡ out.old.items ++ flat_map (λ n. note n Missing) missing.now) }
 {
     for name in missing {
-        append_note(out, name, Wrong::Missing)?;
+        append_note(out, name, Some(Wrong::Missing))?;
     }
     Ok(())
 }
@@ -229,7 +191,9 @@ fn compare(
     let mut comparing = Comparing::new(alloc, ready)?;
     let mut notes = Vec::new(alloc);
     for block in blocks {
-        comparing.append_judged(alloc, &mut notes, block)?;
+        let wrong = comparing.wrong_with(alloc, block)?;
+        append_note(&mut notes, &block.name, wrong)?;
+        comparing.meet(&block.name)?;
     }
     let missing = comparing.missing(alloc)?;
     append_missing(&mut notes, missing.as_slice())?;

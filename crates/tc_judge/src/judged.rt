@@ -196,7 +196,7 @@ impl<K: Keeps + Drop> TakesEvidence for Judging<K> {
 
 // The place of the name among these.
 #[tactic(auto, unfolding(tc_reader::specs::Words::is_text))]
-fn place_among(names: &IndexSet<Name>, name: &Name) -> Option<usize>
+pub(crate) fn place_among(names: &IndexSet<Name>, name: &Name) -> Option<usize>
     ensures is { result ≡ position (is_text name.now) names.now.keys }
     ensures within { IfSome result (λ p. p < length names.now.keys) }
 {

@@ -35,7 +35,7 @@ pub(crate) fn add_name(names: &mut IndexSet<Name>, name: &Name) -> Result<(), No
 
 // Whether the name is one of them.
 #[tactic(auto, unfolding(tc_reader::specs::Words::is_text, tc_reader::specs::Names::among))]
-fn has_name(names: &IndexSet<Name>, name: &Name) -> bool
+pub(crate) fn has_name(names: &IndexSet<Name>, name: &Name) -> bool
     ensures { result ≡ among name.now names.now.keys }
 {
     names.contains(name)

@@ -1,5 +1,5 @@
 use Rattle.std.{proofs.{Common.{rules, ◌≡◌, ◌∙◌, ◌<◌, ◌≤◌, ◌++◌, [], length, get_or, reverse, take, ap, sym, subst, arith}, lemmas.{List.take_all, Slice.Zip.AllZip-long}}, specs.List.flat_map}
-use Rattle.tc_judge.{specs.{Compared.{AreJudged, missing, note}, Inside.{IsJudgedBlock, IsWholeOfBlock, StandsBeside}, declared.compare.Wrong.Wrong}, proofs.Beside.compared_more}
+use Rattle.tc_judge.{specs.{Compared.{AreJudged, missing, note}, Inside.{IsJudgedBlock, IsWholeOfBlock, StandsBeside}, declared.compare.Wrong.Wrong}, proofs.Beside.{compared_more, missing_is}}
 use Rattle.tc_judge.proofs.compare.compare.Goals as goal
 
 pub loop-block-preserved : goal.loop-block-preserved
@@ -8,9 +8,9 @@ loop-block-preserved c =
     let i = c.loop-block.block-index in
     let within : i < length c.args.blocks.now = search rules in
     let item : get_or c.args.blocks.now i j ≡ j = search rules in (
-      c.in_ok-append_judged.ensures.whole,
-      compared_more c.args.ready.items c.args.blocks.now i j c.loop-block.comparing c.append_judged.new.self c.loop-block.notes.items c.append_judged.new.out.items c.requires
-          within item c.loop-block.invariant.1 c.in_ok-append_judged.ensures.says,
+      c.in_ok-meet.ensures.whole,
+      compared_more c.args.ready.items c.args.blocks.now i j c.loop-block.comparing c.meet.new.self c.loop-block.notes.items c.append_note.new.out.items c.in_ok-wrong.wrong
+          within item c.loop-block.invariant.1 c.in_ok-wrong.ensures c.in_ok-append_note.ensures c.in_ok-meet.ensures.meets,
     )
 
 pub loop-block-init : goal.loop-block-init
@@ -26,8 +26,7 @@ returns c cases all each judged =
     let long : length c.args.blocks.now ≡ length all = AllZip-long (IsJudgedBlock IsWholeOfBlock) all c.args.blocks.now judged in
     let to_end : length c.args.blocks.now ≤ i = search rules in
     let whole : take i all ≡ all = take_all i all (omega (arith, long, to_end)) in
-    let beside = subst (λ l. StandsBeside cases (reverse l) c.loop-block.comparing) whole so.0 in
-    let names = c.in_ok-missing.ensures cases (reverse all) beside in
+    let names = c.in_ok-missing.ensures ∙ missing_is c.loop-block.comparing cases (reverse all) (subst (λ l. StandsBeside cases (reverse l) c.loop-block.comparing) whole so.0) in
     let lent : c.as_slice.result.now ≡ missing (reverse all) cases = c.as_slice.ensures.value ∙ names in (
       record {
         notes = c.loop-block.notes.items;
