@@ -1,74 +1,41 @@
 -- Blocks of which the last of each name counts.
-use Rattle.std.{proofs.{Common.{ℕ, zero, suc, ◌≡◌, ◌∙◌, ◌+◌, ◌<◌, ◌||◌, cond, not, nat_lt, Bool, true, false, Some, None, List, [], ◌∷◌, ◌++◌, fold, if◌then◌else◌, get_or, length, map, slice_set, refl, ap, ap₂, subst, sym, arith}, lemmas.{Bool.Decides.nat_tests, List.{Quantifiers.position-Some, length-map, map-append}}}, specs.{Cmp.Lexicographic.bytes_decides, List.{AllZip, list_any, position_or_len}, Prelude.position}}
-use Rattle.tc_answer.proofs.Lemmas.Chosen.{or_left, or_right}
+use Rattle.std.{proofs.Common.{ℕ, ◌≡◌, ◌∙◌, Bool, true, false, List, [], ◌∷◌, fold, if◌then◌else◌, length, map, refl, ap, ap₂, subst, sym}, specs.{Cmp.Lexicographic.{bytes_decides, pointwise}, List.AllZip, Prelude.nat_eq}}
+use Rattle.indexmap.specs.IndexMap.{insert_entry}
 use Rattle.tc_blocks.specs.{declared.block.Block.Block}
-use Rattle.tc_reader.specs.Prelude.{Word, add, among, is_text}
-use Rattle.tc_judge.specs.{Inside.{AreJudgedIn, IsJudgedBlock, PutsNext, block_name, judged_name}, Check.{counting, put, that_count}, declared.judged.Judged.Judged}
+use Rattle.tc_reader.specs.Prelude.{Word, is_text}
+use Rattle.tc_judge.specs.{Inside.{AreJudgedIn, IsJudgedBlock, block_name, judged_name}, Check.{counting, put, that_count}, declared.judged.Judged.Judged}
 
 pub same_word : (a b : Word) → is_text a b ≡ true → a ≡ b
 unfolding is_text
 same_word a b e = (bytes_decides a b).0 e
 
-pub found_below : {X : Type 0} (p : X → Bool) (xs : List X) → list_any p xs ≡ true → position_or_len p xs < length xs
-found_below p [] e = absurd cc
-found_below p (x ∷ xs) e = by (p x) (found_below p xs) e
-  where
-    by : (b : Bool) → (list_any p xs ≡ true → position_or_len p xs < length xs) → (b || list_any p xs) ≡ true → cond (not b) (1 + position_or_len p xs) 0 < suc (length xs)
-    by true low e = omega arith
-    by false low e = let less = low e in omega (arith, less)
-
--- a name without a place is none of them
-none_placed : (n : Word) (ns : List Word) → position (is_text n) ns ≡ None → list_any (is_text n) ns ≡ false
-none_placed n ns none = by (list_any (is_text n) ns) refl
-  where
-    by : (b : Bool) → list_any (is_text n) ns ≡ b → b ≡ false
-    by false k = refl
-    by true k =
-        let below = found_below (is_text n) ns k in
-        let test : nat_lt (position_or_len (is_text n) ns) (length ns) ≡ true = grind (arith, nat_tests) in
-        let is : Some (position_or_len (is_text n) ns) ≡ None = rw test at none in
-        absurd cc
-
 module _ {X : Type 0} (name : X → Word) where
-  put_at : (x : X) (xs : List X) (p : ℕ) (d : Word) → p < length (map name xs) → is_text (name x) (get_or (map name xs) p d) ≡ true
-      → ((k : ℕ) → k < p → is_text (name x) (get_or (map name xs) k d) ≡ false)
-      → (map name xs ≡ map name (slice_set xs p x)) × (slice_set xs p x ≡ put name xs x)
-  put_at x [] p d within here before = absurd (omega (arith, within))
-  put_at x (y ∷ xs) zero d within here before =
-      let same : is_text (name x) (name y) ≡ true = here in
-      (ap (λ (n : Word). n ∷ map name xs) (sym (same_word (name x) (name y) same)), rw same refl)
-  put_at x (y ∷ xs) (suc p) d within here before =
-      let other : is_text (name x) (name y) ≡ false = before 0 (omega arith) in
-      let rest = put_at x xs p d (omega (arith, within)) here (λ i less. before (suc i) (omega (arith, less))) in
-      (ap (λ (l : List Word). name y ∷ l) rest.0, rw other (ap (λ (l : List X). y ∷ l) rest.1))
+  -- what a map from names to blocks has after one more
+  abbrev pub takes_in : List (Word × X) → X → List (Word × X)
+  takes_in es x = insert_entry (pointwise nat_eq) es (name x) x
 
-  put_new : (x : X) (xs : List X) → list_any (is_text (name x)) (map name xs) ≡ false → xs ++ x ∷ [] ≡ put name xs x
-  put_new x [] none = refl
-  put_new x (y ∷ xs) none =
-      let other = or_left (is_text (name x) (name y)) (list_any (is_text (name x)) (map name xs)) none in
-      let rest = or_right (is_text (name x) (name y)) (list_any (is_text (name x)) (map name xs)) none in
-      rw other (ap (λ (l : List X). y ∷ l) (put_new x xs rest))
+  abbrev named : X → Word × X
+  named x = (name x, x)
 
-  puts_so : (ns : List Word) (xs new : List X) (x : X) → ns ≡ map name new → new ≡ put name xs x → PutsNext name xs x ns new
-  puts_so ns xs new x names is = (names, ap length names ∙ length-map new name, is)
+  put_in : (x : X) (xs : List X) → takes_in (map named xs) x ≡ map named (put name xs x)
+  unfolding is_text
+  put_in x [] = refl
+  put_in x (y ∷ xs) = by (put_in x xs) (is_text (name x) (name y)) refl
+    where
+      by : takes_in (map named xs) x ≡ map named (put name xs x) → (t : Bool) → is_text (name x) (name y) ≡ t
+          → (if t then (name y, x) ∷ map named xs else named y ∷ takes_in (map named xs) x) ≡ map named (if t then x ∷ xs else y ∷ put name xs x)
+      by rest true k = ap (λ (n : Word). (n, x) ∷ map named xs) (sym (same_word (name x) (name y) k))
+      by rest false k = ap (λ (l : List (Word × X)). named y ∷ l) rest
 
-  -- a block in the place of the one of its name
-  pub puts_in_place : (ns : List Word) (xs new : List X) (x : X) (p : ℕ) → ns ≡ map name xs → position (is_text (name x)) ns ≡ Some p
-      → new ≡ slice_set xs p x → PutsNext name xs x ns new
-  puts_in_place ns xs new x p names at is =
-      let place = position-Some (is_text (name x)) (map name xs) p [] (ap (position (is_text (name x))) (sym names) ∙ at) in
-      let both = put_at x xs p [] place.0 place.1 place.2 in
-      puts_so ns xs new x (names ∙ (both.0 ∙ ap (map name) (sym is))) (is ∙ both.1)
+  all_in : (ys xs : List X) → map (λ (e : Word × X). e.1) (fold takes_in (map named ys) xs) ≡ fold (put name) ys xs
+  all_in [] [] = refl
+  all_in (y ∷ ys) [] = ap (λ (l : List X). y ∷ l) (all_in ys [])
+  all_in ys (x ∷ xs) = ap (λ es. map (λ (e : Word × X). e.1) (fold takes_in es xs)) (put_in x ys) ∙ all_in (put name ys x) xs
 
-  -- and one of a new name at the end
-  pub puts_at_end : (ns ms : List Word) (xs new : List X) (x : X) → ns ≡ map name xs → position (is_text (name x)) ns ≡ None
-      → ms ≡ add (name x) ns → new ≡ xs ++ x ∷ [] → PutsNext name xs x ms new
-  unfolding among
-  puts_at_end ns ms xs new x names at added is =
-      let none = none_placed (name x) ns at in
-      let more : add (name x) ns ≡ ns ++ name x ∷ [] = rw none refl in
-      puts_so ms xs new x (added ∙ (more ∙ (ap (λ l. l ++ name x ∷ []) names ∙ (sym (map-append name xs (x ∷ [])) ∙ ap (map name) (sym is)))))
-      (is ∙ put_new x xs (subst (λ l. list_any (is_text (name x)) l ≡ false) names none))
+  -- its blocks are the last of each name
+  pub last_values : (xs rest : List X) (es : List (Word × X)) → length rest ≡ 0 → fold takes_in es rest ≡ fold takes_in [] xs → map (λ (e : Word × X). e.1) es ≡ fold (put name) [] xs
+  last_values xs [] es none e = ap (map (λ (e : Word × X). e.1)) e ∙ all_in [] xs
+  last_values xs (x ∷ rest) es none e = absurd cc
 
 module _ {K : Type 0} (keeps : Block → K → Type 0) where
   put_judged : (b : Block) (j : Judged K) (bs : List Block) (js : List (Judged K)) → IsJudgedBlock keeps b j → AllZip (IsJudgedBlock keeps) bs js

@@ -119,10 +119,6 @@ AreJudgedIn {K} keeps last text js = HoldsOfBlocks text (λ all. AllZip (IsJudge
 abbrev pub judged_name : {K : Type 0} → Judged K → Word
 judged_name j = j.name
 
--- of these blocks, and one more put to them, these are the names and the blocks
-abbrev pub PutsNext : {X : Type 0} → (X → Word) → List X → X → List Word → List X → Type 0
-PutsNext name old x names new = (names ≡ map name new) × (length names ≡ length new) × (new ≡ put name old x)
-
 -- the judgement of the first block that is not legal
 abbrev pub first_illegal : {K : Type 0} → List (Judged K) → Option Judgement
 first_illegal js = find (λ judgement. not (judges_legal judgement)) (map (λ j. j.judgement) js)

@@ -1,16 +1,16 @@
 //! The blocks of evidence next to the test cases of their script.
-ghost use Rattle.std.specs.Prelude.{◌≡◌, ◌↔◌, ◌≤◌, ◌++◌, [], List, true, IfErr, IfOk, OnOk, filter, length, map, not};
+ghost use Rattle.std.specs.Prelude.{◌≡◌, ◌↔◌, ◌≤◌, ◌<◌, ◌++◌, [], List, true, IfErr, IfOk, IfSome, OnOk, filter, length, map, not, position};
 ghost use Rattle.std.specs.Option.{option_map_or};
 ghost use Rattle.std.specs.List.{AllZip, flat_map};
 ghost use Rattle.tc_entry.specs.declared.limits.TheConstants.{BEHAVIOURS};
 ghost use Rattle.tc_blocks.specs.declared.block.Block.{Block};
-ghost use Rattle.tc_reader.specs.Prelude.{CampaignView, among};
+ghost use Rattle.tc_reader.specs.Prelude.{CampaignView, among, is_text};
 ghost use Rattle.tc_answer.specs.Prelude.{script_part};
 ghost use Rattle.tc_answer.specs.Inside.{AreReady, IsCaseOf};
 ghost use Rattle.tc_judge.specs.{Compared.IsCheckedAgainst, Compared.IsCourseOf, Compared.IsReportedAgainst, Compared.RefusesAgainst, Compared.note, Compared.wrong_text, Inside.AreComparable, Inside.AreComparedIn, Inside.Finds, Inside.IsJudgedBlock, Inside.IsWhole, Inside.IsWholeOfBlock, Inside.Judges, Inside.Meets, Inside.StandsBeside, declared.compare.Wrong.TheVariants.Missing};
 
 use crate::check::checked_status;
-use crate::judged::{Judged, first_illegal, judge_text, place_among};
+use crate::judged::{Judged, first_illegal, judge_text};
 use crate::kept::Whole;
 use crate::lines::printed_lines;
 use crate::passed::{add_name, has_name};
@@ -88,6 +88,15 @@ fn names_of(alloc: Global, cases: &[Case<Script>]) -> Result<IndexSet<Name>, NoM
         add_name(&mut names, &case.name)?;
     }
     Ok(names)
+}
+
+// The place of the name among these.
+#[tactic(auto, unfolding(tc_reader::specs::Words::is_text))]
+fn place_among(names: &IndexSet<Name>, name: &Name) -> Option<usize>
+    ensures is { result ≡ position (is_text name.now) names.now.keys }
+    ensures within { IfSome result (λ p. p < length names.now.keys) }
+{
+    names.get_index_of(name)
 }
 
 /// Test cases of a script, and which blocks there were so far.

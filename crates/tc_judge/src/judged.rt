@@ -1,15 +1,13 @@
 //! The blocks of a text, each of which is judged: what all that reads histories and evidence is made of.
-ghost use Rattle.std.specs.Prelude.{◌≡◌, ◌<◌, ◌++◌, ◌∷◌, [], ◌⊎◌, IfOk, IfErr, IfSome, OnOk, false, length, map, position, true};
+ghost use Rattle.std.specs.Prelude.{◌≡◌, ◌<◌, ◌++◌, ◌∷◌, [], ◌⊎◌, IfOk, IfErr, OnOk, false, true};
 ghost use Rattle.std.specs.List.{AllZip};
-ghost use Rattle.tc_reader.specs.Prelude.{is_text};
 ghost use Rattle.tc_blocks.specs.Prelude.{IsReadIn, most_of};
 ghost use Rattle.tc_report.specs.Prelude.{said_with};
-ghost use Rattle.tc_judge.specs.{Check.IsUnreadIn, Check.RefusesHistory, Check.history_limit, Inside.AreJudgedIn, Inside.IsJudgedBlock, Inside.IsRecorded, Inside.IsSummaryOf, Inside.PutsNext, Inside.first_illegal as spec_first, Inside.judged_name, Check.that_count};
+ghost use Rattle.tc_judge.specs.{Check.IsUnreadIn, Check.RefusesHistory, Check.history_limit, Inside.AreJudgedIn, Inside.IsJudgedBlock, Inside.IsRecorded, Inside.IsSummaryOf, Inside.first_illegal as spec_first, Inside.judged_name, Check.that_count};
 
 use crate::kept::Keeps;
-use crate::passed::add_name;
 use crate::playing::{Judgement, Playing};
-use indexmap::IndexSet;
+use indexmap::IndexMap;
 use std::alloc::Global;
 use std::io::Read;
 use tc_answer::{HISTORY_LIMIT, RunFault, of_input};
@@ -194,45 +192,15 @@ impl<K: Keeps + Drop> TakesEvidence for Judging<K> {
     }
 }
 
-// The place of the name among these.
-#[tactic(auto, unfolding(tc_reader::specs::Words::is_text))]
-pub(crate) fn place_among(names: &IndexSet<Name>, name: &Name) -> Option<usize>
-    ensures is { result ≡ position (is_text name.now) names.now.keys }
-    ensures within { IfSome result (λ p. p < length names.now.keys) }
-{
-    names.get_index_of(name)
-}
-
-// Puts the block in the place of the one of its name, or at the end. These are the names of the others.
-fn put<B: Named + Drop>(
-    names: &mut IndexSet<Name>,
-    blocks: &mut Vec<B>,
-    block: B,
-) -> Result<(), NoMemory>
-    requires names { names.old.keys ≡ map B.name_in blocks.old.items }
-    requires even { length names.old.keys ≡ length blocks.old.items }
-    ensures { OnOk result (PutsNext B.name_in blocks.old.items block names.new.keys blocks.new.items) }
-{
-    let name = block.name();
-    if let Some(place) = place_among(names, &name) {
-        blocks[place] = block;
-        return Ok(());
-    }
-    add_name(names, &name)?;
-    blocks.push(block)?;
-    Ok(())
-}
-
 // Of the blocks the last of each name, in the place of the first.
 fn last_of<B: Named + Drop>(alloc: Global, blocks: Vec<B>) -> Result<Vec<B>, NoMemory>
     ensures { IfOk result (λ v. v.items ≡ that_count B.name_in true blocks.items) }
 {
-    let mut names = IndexSet::new(alloc);
-    let mut last = Vec::new(alloc);
+    let mut last = IndexMap::new(alloc);
     for block in blocks {
-        put(&mut names, &mut last, block)?;
+        last.insert(block.name(), block)?;
     }
-    Ok(last)
+    Ok(last.into_values().collect(alloc)?)
 }
 
 /// The blocks that count: all, or the last of each name.
