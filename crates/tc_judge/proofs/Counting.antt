@@ -41,8 +41,6 @@ module _ {K : Type 0} (keeps : Block → K → Type 0) where
   put_judged : (b : Block) (j : Judged K) (bs : List Block) (js : List (Judged K)) → IsJudgedBlock keeps b j → AllZip (IsJudgedBlock keeps) bs js
       → AllZip (IsJudgedBlock keeps) (put block_name bs b) (put judged_name js j)
   put_judged b j [] [] is each = (is, tt)
-  put_judged b j [] (k ∷ js) is each = absurd each
-  put_judged b j (c ∷ bs) [] is each = absurd each
   put_judged b j (c ∷ bs) (k ∷ js) is each =
       subst (λ t. AllZip (IsJudgedBlock keeps) (put block_name (c ∷ bs) b) (if t then j ∷ js else k ∷ put judged_name js j))
       (ap₂ is_text (sym is.name) (sym each.0.name)) (by (is_text (block_name b) (block_name c)) (put_judged b j bs js is each.1))
@@ -51,14 +49,14 @@ module _ {K : Type 0} (keeps : Block → K → Type 0) where
           → AllZip (IsJudgedBlock keeps) (if t then b ∷ bs else c ∷ put block_name bs b) (if t then j ∷ js else k ∷ put judged_name js j)
       by true rest = (is, each.1)
       by false rest = (each.0, rest)
+  put_judged b j _ _ is each = absurd each
 
   all_put : (cs bs : List Block) (ks js : List (Judged K)) → AllZip (IsJudgedBlock keeps) cs ks → AllZip (IsJudgedBlock keeps) bs js
       → AllZip (IsJudgedBlock keeps) (fold (put block_name) cs bs) (fold (put judged_name) ks js)
   all_put cs [] ks [] before each = before
-  all_put cs [] ks (j ∷ js) before each = absurd each
-  all_put cs (b ∷ bs) ks [] before each = absurd each
   all_put cs (b ∷ bs) ks (j ∷ js) before each =
       all_put (put block_name cs b) bs (put judged_name ks j) js (put_judged b j cs ks each.0 before) each.1
+  all_put cs _ ks _ before each = absurd each
 
   those_judged : (last : Bool) (bs : List Block) (js : List (Judged K)) → AllZip (IsJudgedBlock keeps) bs js
       → AllZip (IsJudgedBlock keeps) (counting last bs) (that_count judged_name last js)

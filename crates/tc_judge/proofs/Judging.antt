@@ -1,5 +1,5 @@
 -- Judged blocks: what `check` and `report` make of them.
-use Rattle.std.{proofs.{Common.{ℕ, ◌≡◌, ◌≢◌, ◌∙◌, ◌&&◌, ◌||◌, ◌==◌, cond, not, Bool, true, false, Option, Some, None, List, [], ◌∷◌, ◌++◌, if◌then◌else◌, filter, length, map, reverse, refl, ap, ap₂, sym, subst, codes, Result, Err}, lemmas.List.{Elements.{All-cons, All-filter, All-head, All-nil, All-tail}}}, specs.{List.{AllZip, flat_map, list_any}, Prelude.{IsErrAnd, is_some, Ok}}}
+use Rattle.std.{proofs.{Common.{All, ℕ, ◌≡◌, ◌≢◌, ◌∙◌, ◌&&◌, ◌||◌, ◌==◌, cond, not, Bool, true, false, Option, Some, None, List, [], ◌∷◌, ◌++◌, if◌then◌else◌, filter, length, map, reverse, refl, ap, ap₂, sym, subst, codes, Result, Err}, lemmas.List.{Elements.{All-cons, All-filter, All-head, All-nil, All-tail}, Folds.flat_map-map}}, specs.{List.{AllZip, flat_map, list_any}, Prelude.{IsErrAnd, is_some, Ok}}}
 use Rattle.tc_answer.{specs.{Prelude.have_names, declared.{fault.RunFault.RunFault, reply.Answer.Answer}}, proofs.Lemmas.Chosen.{at_place, zip_filter}}
 use Rattle.tc_blocks.specs.{declared.{block.Block.Block, line.Line.Line}, Prelude.{entries_of, entry_in}}
 use Rattle.tc_command.specs.declared.task.{Choice.Choice, ReportForm.ReportForm}
@@ -43,8 +43,6 @@ module _ {K : Type 0} (keeps : Block → K → Type 0) where
   pub lines_checked : (picks : Word → Verdict → Bool) (bs : List Block) (js : List (Judged K)) → AllZip (IsJudgedBlock keeps) bs js
       → Checks (picked_by picks) bs (printed picks js) (not (is_some (first_illegal js)))
   lines_checked picks [] [] each = Checks.none
-  lines_checked picks [] (j ∷ js) each = absurd each
-  lines_checked picks (b ∷ bs) [] each = absurd each
   lines_checked picks (b ∷ bs) (j ∷ js) each = by j.judgement each.0.judgement (lines_checked picks bs js each.1)
     where
       line : Judgement → List ℕ
@@ -56,14 +54,12 @@ module _ {K : Type 0} (keeps : Block → K → Type 0) where
       by (Judgement.Legal entries) is rest =
           rw (each.0.name, each.0.verdict, is.1)
           (Checks.goes_on b bs (block_line b) (printed picks js) (not (is_some (first_illegal js))) (is.0, refl) rest)
-      by (Judgement.OtherReply line given reply) is rest = Checks.stops b bs (illegal_line (Judgement.OtherReply line given reply)) (illegal_said b (Judgement.OtherReply line given reply) refl is)
-      by (Judgement.OtherVerdict line given verdict) is rest = Checks.stops b bs (illegal_line (Judgement.OtherVerdict line given verdict)) (illegal_said b (Judgement.OtherVerdict line given verdict) refl is)
+      by k is rest = Checks.stops b bs (illegal_line k) (illegal_said b k refl is)
+  lines_checked picks _ _ each = absurd each
 
   -- which of the blocks is the first that is not legal
   pub first_found : (bs : List Block) (js : List (Judged K)) → AllZip (IsJudgedBlock keeps) bs js → IsFirstIllegal bs (first_illegal js)
   first_found [] [] each = All-nil IsLegalBlock
-  first_found [] (j ∷ js) each = absurd each
-  first_found (b ∷ bs) [] each = absurd each
   first_found (b ∷ bs) (j ∷ js) each = by j.judgement each.0.judgement (first_found bs js each.1)
     where
       more : IsLegalBlock b → (o : Option Judgement) → IsFirstIllegal bs o → IsFirstIllegal (b ∷ bs) o
@@ -73,8 +69,8 @@ module _ {K : Type 0} (keeps : Block → K → Type 0) where
       by : (k : Judgement) → IsJudgement b k → IsFirstIllegal bs (first_illegal js)
           → IsFirstIllegal (b ∷ bs) (cond (not (judges_legal k)) (Some k) (first_illegal js))
       by (Judgement.Legal entries) is rest = more is.0 (first_illegal js) rest
-      by (Judgement.OtherReply line given reply) is rest = Checks.stops b bs (illegal_line (Judgement.OtherReply line given reply)) (illegal_said b (Judgement.OtherReply line given reply) refl is)
-      by (Judgement.OtherVerdict line given verdict) is rest = Checks.stops b bs (illegal_line (Judgement.OtherVerdict line given verdict)) (illegal_said b (Judgement.OtherVerdict line given verdict) refl is)
+      by k is rest = Checks.stops b bs (illegal_line k) (illegal_said b k refl is)
+  first_found _ _ each = absurd each
 
   -- ---- the patterns
 
@@ -82,9 +78,8 @@ module _ {K : Type 0} (keeps : Block → K → Type 0) where
   pub any_named : (test : Word → Bool) (bs : List Block) (js : List (Judged K)) → AllZip (IsJudgedBlock keeps) bs js
       → list_any (λ j. test (judged_name j)) js ≡ list_any (λ b. test (block_name b)) bs
   any_named test [] [] each = refl
-  any_named test [] (j ∷ js) each = absurd each
-  any_named test (b ∷ bs) [] each = absurd each
   any_named test (b ∷ bs) (j ∷ js) each = ap₂ (λ x y. x || y) (ap test each.0.name) (any_named test bs js each.1)
+  any_named test _ _ each = absurd each
 
   same_names : (only : List Word) (bs : List Block) (js : List (Judged K)) → AllZip (IsJudgedBlock keeps) bs js
       → have_names judged_name only js ≡ have_names block_name only bs
@@ -92,21 +87,18 @@ module _ {K : Type 0} (keeps : Block → K → Type 0) where
   same_names (pattern ∷ only) bs js each = ap₂ (λ x y. x && y) (any_named (matches pattern) bs js each) (same_names only bs js each)
 
   -- if all blocks are legal, the patterns name blocks
-  pub all_named : (choice : Choice) (only : List Word) (text : List ℕ) (js : List (Judged K)) → only ≡ choice.only.items → AreJudgedIn keeps choice.last text js
-      → (is_some (first_illegal js) || have_names judged_name only js) ≡ true → NameBlocks choice.last choice.only.items text
-  all_named choice only text js same are found =
-      subst (λ o. NameBlocks choice.last o text) same (λ all is. by (counting choice.last all) (are.holds all is) (first_illegal js) (first_found (counting choice.last all) js (are.holds all is)) found)
+  pub all_named : (choice : Choice) (text : List ℕ) (js : List (Judged K)) → AreJudgedIn keeps choice.last text js → names_found choice js ≡ true → NameBlocks choice.last choice.only.items text
+  all_named choice text js are found all is = by (counting choice.last all) (are.holds all is) (first_illegal js) (first_found (counting choice.last all) js (are.holds all is)) found
     where
       by : (bs : List Block) → AllZip (IsJudgedBlock keeps) bs js → (o : Option Judgement) → IsFirstIllegal bs o
-          → (is_some o || have_names judged_name only js) ≡ true → AreAllLegal bs → have_names block_name only bs ≡ true
-      by bs each None so has legal = sym (same_names only bs js each) ∙ has
+          → (is_some o || have_names judged_name choice.only.items js) ≡ true → AreAllLegal bs → have_names block_name choice.only.items bs ≡ true
+      by bs each None so has legal = sym (same_names choice.only.items bs js each) ∙ has
       by bs each (Some k) so has legal = absurd (none_illegal bs (illegal_line k) legal so)
 
   -- or one of them names none
-  pub names_lacking : (choice : Choice) (only : List Word) (text : List ℕ) (js : List (Judged K)) → only ≡ choice.only.items → AreJudgedIn keeps choice.last text js
-      → (is_some (first_illegal js) || have_names judged_name only js) ≡ false → RefusesBlocks choice.last choice.only.items text RunFault.Only
-  names_lacking choice only text js same are lack =
-      subst (λ o. RefusesBlocks choice.last o text RunFault.Only) same (by (first_illegal js) (first_found bs js each) lack)
+  pub names_lacking : (choice : Choice) (text : List ℕ) (js : List (Judged K)) → AreJudgedIn keeps choice.last text js → names_found choice js ≡ false
+      → RefusesBlocks choice.last choice.only.items text RunFault.Only
+  names_lacking choice text js are lack = by (first_illegal js) (first_found bs js each) lack
     where
       bs : List Block
       bs = counting choice.last are.blocks
@@ -114,8 +106,8 @@ module _ {K : Type 0} (keeps : Block → K → Type 0) where
       each : AllZip (IsJudgedBlock keeps) bs js
       each = are.holds are.blocks are.evidence
 
-      by : (o : Option Judgement) → IsFirstIllegal bs o → (is_some o || have_names judged_name only js) ≡ false → RefusesBlocks choice.last only text RunFault.Only
-      by None so has = (are.blocks, are.evidence, so, sym (same_names only bs js each) ∙ has)
+      by : (o : Option Judgement) → IsFirstIllegal bs o → (is_some o || have_names judged_name choice.only.items js) ≡ false → RefusesBlocks choice.last choice.only.items text RunFault.Only
+      by None so has = (are.blocks, are.evidence, so, sym (same_names choice.only.items bs js each) ∙ has)
       by (Some k) so has = absurd cc
 
   -- ---- what `check` makes of them
@@ -139,12 +131,12 @@ module _ {K : Type 0} (keeps : Block → K → Type 0) where
       by false is = is
 
   pub blocks_checked : (choice : Choice) (only : List Word) (text out : List ℕ) (status : ℕ) (js : List (Judged K)) → only ≡ choice.only.items → AreJudgedIn keeps choice.last text js
-      → (is_some (first_illegal js) || have_names judged_name only js) ≡ true → out ≡ printed (is_picked only choice.failed) js
+      → names_found choice js ≡ true → out ≡ printed (is_picked only choice.failed) js
       → status ≡ (if is_some (first_illegal js) then 3 else 0)
       → IsMadeOfBlocks choice text (IsSilent (IsChecked choice.last (is_chosen choice) text)) (Ok (answer_of out [] status))
   blocks_checked choice only text out status js same are found lines status_is = (
     (all_checked choice.last (is_picked choice.only.items choice.failed) text out status js are (lines ∙ ap (λ o. printed (is_picked o choice.failed) js) same) status_is, refl),
-    all_named choice only text js same are found,
+    all_named choice text js are found,
   )
 
 -- ---- what `report` makes of them
@@ -161,15 +153,13 @@ summary_kept b p entries s played are said same says legal = by p.difference pla
         ∙ ap₂ (λ (name : List ℕ) (n : ℕ). summary_of name n (entries_of b.lines) (said_in b.lines)) (ap (λ h. h.name) played.0) is.0)
     by (Some d) is = absurd (no_difference b.header.behaviours b.lines is.before is.behind is.entry d.reply legal.replies is.place is.answers is.other)
 
--- the summaries of legal blocks
-summaries_alike : {K : Type 0} (keeps : Block → K → Type 0) (summary : K → Summary) → ((b : Block) (k : K) → keeps b k → IsLegalBlock b → summary k ≡ block_summary b)
-    → (cs : List Block) (js : List (Judged K)) → AllZip (IsJudgedBlock keeps) cs js → AreAllLegal cs → map (summary_by summary) js ≡ map block_summary cs
-summaries_alike keeps summary same [] [] each legal = refl
-summaries_alike keeps summary same [] (j ∷ js) each legal = absurd each
-summaries_alike keeps summary same (c ∷ cs) [] each legal = absurd each
-summaries_alike keeps summary same (c ∷ cs) (j ∷ js) each legal =
-    ap₂ (λ (s : Summary) (l : List Summary). s ∷ l) (same c j.kept each.0.kept (All-head IsLegalBlock c cs legal))
-    (summaries_alike keeps summary same cs js each.1 (All-tail IsLegalBlock c cs legal))
+-- what is made of two lists is alike, if it is at each place
+map_alike : {A B C : Type 0} (R : A → B → Type 0) (P : A → Type 0) (f : A → C) (g : B → C) → ((x : A) (y : B) → R x y → P x → g y ≡ f x) → (xs : List A) (ys : List B) → AllZip R xs ys
+    → All P xs → map g ys ≡ map f xs
+map_alike R P f g same [] [] each all = refl
+map_alike {A} {B} {C} R P f g same (x ∷ xs) (y ∷ ys) each all =
+    ap₂ (λ (z : C) (l : List C). z ∷ l) (same x y each.0 (All-head P x xs all)) (map_alike R P f g same xs ys each.1 (All-tail P x xs all))
+map_alike R P f g same _ _ each all = absurd each
 
 module _ {K : Type 0} (keeps : Block → K → Type 0) where
   -- those that are picked, or all
@@ -188,14 +178,14 @@ module _ {K : Type 0} (keeps : Block → K → Type 0) where
   -- what the forms say of them
   pub chosen_reports : (summary : K → Summary) → ((b : Block) (k : K) → keeps b k → IsLegalBlock b → summary k ≡ block_summary b) → (bs cs : List Block)
       (js : List (Judged K)) (o : Option Judgement) → AreChosenBlocks keeps bs cs js o → Reports bs cs (map (summary_by summary) js) o
-  chosen_reports summary same bs cs js o are = (are.first, λ legal. summaries_alike keeps summary same cs js are.each (are.legal legal))
+  chosen_reports summary same bs cs js o are = (are.first, λ legal. map_alike (IsJudgedBlock keeps) IsLegalBlock block_summary (summary_by summary) (λ c j is. same c j.kept is.kept) cs js are.each (are.legal legal))
 
   -- some pattern of the choice matches the name of none
   pub pick_refused : (form : ReportForm) (choice : Choice) (text : List ℕ) (js : List (Judged K)) (answer : Result Answer RunFault) (fault : RunFault) → IsErrAnd answer (λ f. f ≡ fault)
       → AreJudgedIn keeps choice.last text js → (fault ≡ RunFault.Only) × (names_found choice js ≡ false) → IsMadeOfBlocks choice text (IsReported form choice.last (is_chosen choice) text) answer
   pick_refused form choice text js answer fault passed are lacking =
       passed_on (IsMadeOfBlocks choice text (IsReported form choice.last (is_chosen choice) text)) answer fault passed
-      (rw lacking.0 (names_lacking keeps choice choice.only.items text js refl are lacking.1))
+      (rw lacking.0 (names_lacking keeps choice text js are lacking.1))
 
   -- what is answered for those that are picked is made of the text
   pub pick_reported : (form : ReportForm) (choice : Choice) (text : List ℕ) (js chosen : List (Judged K)) (illegal : Option Judgement) (notes : List ℕ) (a : Answer) → AreJudgedIn keeps choice.last text js
@@ -211,7 +201,7 @@ module _ {K : Type 0} (keeps : Block → K → Type 0) where
           subst (λ n. IsReport form text bs cs [] n a) none (reports bs cs (subst (λ l. AreChosenBlocks keeps bs cs l illegal) (sym picked.picked)
           (picked_chosen (is_picked choice.only.items choice.failed) bs js illegal (are.holds all is) picked.first)));
     },
-    all_named keeps choice choice.only.items text js refl are picked.found,
+    all_named keeps choice text js are picked.found,
   )
 
 -- what the text report says of a block
@@ -226,23 +216,10 @@ report_alike c j is legal =
 
 pub text_alike : (cs : List Block) (js : List (Judged Whole)) → AllZip (IsJudgedBlock IsWholeOfBlock) cs js → AreAllLegal cs
     → judged_text js ≡ blocks_report cs
-text_alike cs js each legal = ap₂ (λ l vs. l ++ verdicts_closing vs) (texts cs js each legal) (verdicts cs js each)
-  where
-    texts : (cs : List Block) (js : List (Judged Whole)) → AllZip (IsJudgedBlock IsWholeOfBlock) cs js → AreAllLegal cs
-        → flat_map judged_report js ≡ flat_map block_report cs
-    texts [] [] each legal = refl
-    texts [] (j ∷ js) each legal = absurd each
-    texts (c ∷ cs) [] each legal = absurd each
-    texts (c ∷ cs) (j ∷ js) each legal =
-        ap₂ (λ (x : List ℕ) (l : List ℕ). x ++ l) (report_alike c j each.0 (All-head IsLegalBlock c cs legal))
-        (texts cs js each.1 (All-tail IsLegalBlock c cs legal))
-
-    verdicts : (cs : List Block) (js : List (Judged Whole)) → AllZip (IsJudgedBlock IsWholeOfBlock) cs js
-        → map (λ j. j.verdict) js ≡ map (λ b. b.verdict) cs
-    verdicts [] [] each = refl
-    verdicts [] (j ∷ js) each = absurd each
-    verdicts (c ∷ cs) [] each = absurd each
-    verdicts (c ∷ cs) (j ∷ js) each = ap₂ (λ (v : Verdict) (l : List Verdict). v ∷ l) each.0.verdict (verdicts cs js each.1)
+text_alike cs js each legal =
+    let texts = map_alike (IsJudgedBlock IsWholeOfBlock) IsLegalBlock block_report judged_report report_alike cs js each legal in
+    let verdicts = map_alike (IsJudgedBlock IsWholeOfBlock) IsLegalBlock (λ b. b.verdict) (λ j. j.verdict) (λ b j is legal. is.verdict) cs js each legal in
+    ap₂ (λ l vs. l ++ verdicts_closing vs) (sym (flat_map-map (λ l. l) judged_report js) ∙ (ap (flat_map (λ l. l)) texts ∙ flat_map-map (λ l. l) block_report cs)) verdicts
 
 -- an answer for test cases
 pub answer_made : (form : ReportForm) (text notes lent : List ℕ) (ss : List Summary) (out told : List ℕ) (worst status : ℕ) → IsForm form text ss out → told ≡ notes → lent ≡ notes

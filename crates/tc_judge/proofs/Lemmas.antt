@@ -1,5 +1,5 @@
 -- The lemmas of this crate that others cite.
-use Rattle.std.{proofs.{Common.{ℕ, ◌≡◌, ◌≢◌, ◌≤◌, ◌+◌, ◌-◌, ◌^◌, ◌∙◌, true, false, None, Some, Option, List, [], ◌∷◌, ◌++◌, length, reverse, ap, sym, subst, append_assoc, arith, Bool, refl, suc, All}, Math.Nat.min-eq_left, lemmas.{List.{Concat.flat_map-append, append-nil, length-append, reverse-append, Elements.{All-head, All-tail, All-cons, All-nil}}, Bool.false≢true}}, specs.{Prelude.{is_some, min}, List.{flat_map, AllZip}}}
+use Rattle.std.{proofs.{Common.{ℕ, ◌≡◌, ◌≢◌, ◌≤◌, ◌+◌, ◌-◌, ◌^◌, ◌∙◌, true, false, None, Some, Option, List, [], ◌∷◌, ◌++◌, length, reverse, if◌then◌else◌, ap, ap₂, sym, subst, append_assoc, arith, Bool, refl, suc, All}, Math.Nat.min-eq_left, lemmas.{List.{Concat.flat_map-append, append-nil, length-append, reverse-append, Elements.{All-head, All-tail, All-cons, All-nil}}, Bool.false≢true}}, specs.{Prelude.{is_some, min}, List.{flat_map, AllZip}}}
 use Rattle.tc_rules.specs.Prelude.{Entry, Reply, answer, IsLegal, IsReplyOf, Kept, StandsFor, TakesIn}
 use Rattle.tc_blocks.specs.{declared.{line.Line.Line, block.Block.Block}, Prelude.{entries_of, entry_in, LinesAreLegal}}
 use Rattle.tc_judge.specs.{Inside.{IsOtherReply, IsPlayedTo, each}, declared.playing.Difference.Difference, Check.{AreAllLegal, Checks, IsIllegalLine, IsLegalBlock, legal_line}}
@@ -114,22 +114,21 @@ no_other b line right (IsIllegalLine.other_verdict ok differs said) = differs ri
 abbrev pub block_line : Block → List ℕ
 block_line b = legal_line b.header.name (length (entries_of b.lines)) b.verdict
 
-pub only_legal : (bs : List Block) (out : List ℕ) (legal : Bool) → AreAllLegal bs → Checks each bs out legal → (out ≡ flat_map block_line bs) × (legal ≡ true)
-only_legal _ _ _ all Checks.none = (refl, refl)
-only_legal _ _ _ all (Checks.goes_on b rest line out legal says more) =
-    let two = only_legal rest out legal (All-tail IsLegalBlock b rest all) more in
-    (ap (λ l. l ++ out) says.1 ∙ ap (λ l. block_line b ++ l) two.0, two.1)
-only_legal _ _ _ all (Checks.stops b rest line says) = absurd (no_other b line (All-head IsLegalBlock b rest all) says)
-
 -- whichever of them are printed, legal blocks are found legal
-pub found_all : (test : Block → Bool) (bs : List Block) (out : List ℕ) (legal : Bool) → AreAllLegal bs → Checks test bs out legal → legal ≡ true
-found_all test _ _ _ all Checks.none = refl
-found_all test _ _ _ all (Checks.goes_on b rest line out legal says more) = found_all test rest out legal (All-tail IsLegalBlock b rest all) more
+found_all : (test : Block → Bool) (bs : List Block) (out : List ℕ) (legal : Bool) → AreAllLegal bs → Checks test bs out legal
+    → (out ≡ flat_map (λ b. if test b then block_line b else []) bs) × (legal ≡ true)
+found_all test _ _ _ all Checks.none = (refl, refl)
+found_all test _ _ _ all (Checks.goes_on b rest line out legal says more) =
+    let two = found_all test rest out legal (All-tail IsLegalBlock b rest all) more in
+    (ap₂ (λ x y. (if test b then x else []) ++ y) says.1 two.0, two.1)
 found_all test _ _ _ all (Checks.stops b rest line says) = absurd (no_other b line (All-head IsLegalBlock b rest all) says)
+
+pub only_legal : (bs : List Block) (out : List ℕ) (legal : Bool) → AreAllLegal bs → Checks each bs out legal → (out ≡ flat_map block_line bs) × (legal ≡ true)
+only_legal = found_all each
 
 -- and none of them is found not to be
 pub none_illegal : (bs : List Block) (line : List ℕ) → AreAllLegal bs → Checks (λ b. false) bs line false → ⊥
-none_illegal bs line all checks = false≢true (found_all (λ b. false) bs line false all checks)
+none_illegal bs line all checks = false≢true (found_all (λ b. false) bs line false all checks).1
 
 -- ---- test cases have few behaviours
 
@@ -139,14 +138,13 @@ few_scripts (b ∷ bs) = ap suc (few_scripts bs)
 
 pub few_jobs : (cases : CampaignView) (ready : List (Case ScriptView)) → AllZip IsCaseOf cases ready → All (λ c. IsCase c.1) cases → All (λ k. length k.jobs.items ≤ BEHAVIOURS) ready
 few_jobs [] [] each all = All-nil (λ (k : Case ScriptView). length k.jobs.items ≤ BEHAVIOURS)
-few_jobs [] (k ∷ ks) each all = absurd each
-few_jobs (c ∷ cs) [] each all = absurd each
 few_jobs (c ∷ cs) (k ∷ ks) each all =
     let one : IsCase c.1 = All-head (λ (t : CaseView). IsCase t.1) c cs all in
     let same : length k.jobs.items ≡ length c.1 = ap length each.0.jobs ∙ few_scripts c.1 in
     let few = one.few in
     All-cons (λ (r : Case ScriptView). length r.jobs.items ≤ BEHAVIOURS) k ks (omega (arith, few, same))
     (few_jobs cs ks each.1 (All-tail (λ (t : CaseView). IsCase t.1) c cs all))
+few_jobs _ _ each all = absurd each
 
 -- ---- answers, by their parts
 

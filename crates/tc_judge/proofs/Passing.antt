@@ -88,8 +88,6 @@ IsShown n b = is_text n b.header.name ≡ true → ShowsPassed b
 -- without a block of the name that shows nothing, each block of it shows that its test case has passed
 each_shown : (n : Word) (bs : List Block) (js : List (Judged Nothing)) → AllZip (IsJudgedBlock KeepsNothing) bs js → list_any (fails n) js ≡ false → All (IsShown n) bs
 each_shown n [] [] each none = All-nil (IsShown n)
-each_shown n [] (j ∷ js) each none = absurd each
-each_shown n (b ∷ bs) [] each none = absurd each
 each_shown n (b ∷ bs) (j ∷ js) each none =
     let first = or_left (fails n j) (list_any (fails n) js) none in
     let rest = or_right (fails n j) (list_any (fails n) js) none in
@@ -98,17 +96,17 @@ each_shown n (b ∷ bs) (j ∷ js) each none =
     by : (p : Bool) → is_text n j.name ≡ true → (not p && is_text n j.name) ≡ false → p ≡ true
     by true named none = refl
     by false named none = absurd cc
+each_shown n _ _ each none = absurd each
 
 none_unshown : (n : Word) (bs : List Block) (js : List (Judged Nothing)) → AllZip (IsJudgedBlock KeepsNothing) bs js → All (IsShown n) bs → list_any (fails n) js ≡ false
 none_unshown n [] [] each all = refl
-none_unshown n [] (j ∷ js) each all = absurd each
-none_unshown n (b ∷ bs) [] each all = absurd each
 none_unshown n (b ∷ bs) (j ∷ js) each all =
     ap₂ (λ x y. x || y) (by (is_text n j.name) refl) (none_unshown n bs js each.1 (All-tail (IsShown n) b bs all))
   where
     by : (t : Bool) → is_text n j.name ≡ t → (fails n j) ≡ false
     by true named = rw (shown b j each.0 (All-head (IsShown n) b bs all (ap (is_text n) (sym each.0.name) ∙ named))) refl
     by false named = rw named (and-false (not (passes j)))
+none_unshown n _ _ each all = absurd each
 
 -- what is kept of the names says which test cases have passed
 pub passed_by_names : (bs : List Block) (js : List (Judged Nothing)) (s : Seen) → AllZip (IsJudgedBlock KeepsNothing) bs js → HasSeen js s

@@ -30,11 +30,10 @@ fn checked<K: Keeps + Drop>(
     ensures { (text : List ℕ) → AreJudgedIn K.keeps choice.now.last text blocks.now
         → IsMadeOfBlocks choice.now text (IsSilent (IsChecked choice.now.last (is_chosen choice.now) text)) result }
 {
-    let only = choice.only.as_slice();
-    if !name_blocks(only, blocks) {
+    if !name_blocks(choice, blocks) {
         return Err(RunFault::Only);
     }
-    let out = printed_lines(alloc, blocks, only, choice.failed)?;
+    let out = printed_lines(alloc, blocks, choice.only.as_slice(), choice.failed)?;
     Ok(Answer::silent(alloc, out, checked_status(blocks)))
 }
 

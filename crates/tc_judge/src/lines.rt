@@ -1,14 +1,15 @@
 //! Which blocks are picked, and the lines that `check` prints.
-ghost use Rattle.std.specs.Prelude.{◌≡◌, ◌||◌, ◌++◌, IfOk, OnOk, is_some};
+ghost use Rattle.std.specs.Prelude.{◌≡◌, ◌++◌, IfOk, OnOk};
 ghost use Rattle.std.specs.List.{list_any};
 ghost use Rattle.tc_answer.specs.Prelude.{have_names};
 ghost use Rattle.tc_rules.specs.Prelude.{matches};
-ghost use Rattle.tc_judge.specs.{Check.legal_line, Inside.first_illegal as spec_first, Inside.gives_text, Inside.illegal_line, Inside.is_picked as spec_picked, Inside.judged_name, Inside.line_by, Inside.printed};
+ghost use Rattle.tc_judge.specs.{Check.legal_line, Inside.gives_text, Inside.illegal_line, Inside.is_picked as spec_picked, Inside.line_by, Inside.names_found, Inside.printed};
 
 use crate::judged::{Judged, Named, first_illegal};
 use crate::playing::Judgement;
 use std::alloc::Global;
 use tc_answer::{append_place, is_asked};
+use tc_command::Choice;
 use tc_entry::{Name, Pattern};
 use tc_report::verdict_status;
 use tc_rules::{NoMemory, Verdict};
@@ -37,11 +38,11 @@ pub fn patterns_match<B: Named>(blocks: &[B], only: &[Pattern]) -> bool
     only.iter().all(|pattern| has_block(blocks, pattern))
 }
 
-/// Whether each of the patterns matches the name of a block, or a block is not legal.
-pub(crate) fn name_blocks<K: Drop>(only: &[Pattern], blocks: &[Judged<K>]) -> bool
-    ensures { result ≡ (is_some (spec_first blocks.now) || have_names judged_name only.now blocks.now) }
+/// Whether each of the patterns of the choice matches the name of a block, or a block is not legal.
+pub(crate) fn name_blocks<K: Drop>(choice: &Choice, blocks: &[Judged<K>]) -> bool
+    ensures { result ≡ names_found choice.now blocks.now }
 {
-    first_illegal(blocks).is_some() || patterns_match(blocks, only)
+    first_illegal(blocks).is_some() || patterns_match(blocks, choice.only.as_slice())
 }
 
 // Appends the line of a legal block; if memory runs out, a part of it.

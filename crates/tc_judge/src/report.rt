@@ -37,11 +37,11 @@ fn pick<K: Drop>(
     ensures picked { IfOk result (λ r. ArePicked choice.now blocks.items r.0.items r.1) }
     ensures lacking { IfErr result (λ fault. (fault ≡ RunFault.Only) × (names_found choice.now blocks.items ≡ false)) }
 {
-    let only = choice.only.as_slice();
     let illegal = first_illegal(blocks.as_slice());
-    if !name_blocks(only, blocks.as_slice()) {
+    if !name_blocks(choice, blocks.as_slice()) {
         return Err(RunFault::Only);
     }
+    let only = choice.only.as_slice();
     Ok((picked(blocks, only, choice.failed), illegal))
 }
 
