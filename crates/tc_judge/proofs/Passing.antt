@@ -159,3 +159,5 @@ to_run_left choice text ks is are = subst (λ b. AreReadyAs (to_run_by b choice 
 
 pub to_run_chosen : (choice : Choice) (text : List ℕ) (ks : List (Case ScriptView)) → choice.failed ≡ false → AreReady choice text ks → AreReadyAs (AreToRun choice text) ks
 to_run_chosen choice text ks is are = subst (λ b. AreReadyAs (to_run_by b choice text) ks) (sym is) are
+
+pub ruleset to_run_rules = (to_run_left, to_run_chosen)

@@ -11,7 +11,7 @@ use Rattle.tc_report.specs.{Prelude.{block_summary, blocks_report, replayed_text
 use Rattle.tc_exec.specs.declared.test_case.Case.{Case}
 use Rattle.tc_command.specs.declared.task.{Choice.Choice, ReportForm.ReportForm}
 use Rattle.tc_answer.specs.{Prelude.{AreChosen, blocks_part, have_names, is_asked, script_part}, Inside.{place_text, IsCaseOf}}
-use Rattle.tc_judge.specs.{Check.{AreAllLegal, Checks, IsLegalBlock, legal_line, counting, is_passing, put}, Compared.{IsCompared, IsJudged, has_block_named, has_later, missing}, declared.{compare.{Comparing.Comparing, Comparison.Comparison, Wrong.Wrong}, judged.{Judged.Judged, Recorded.Recorded}, kept.{Nothing.Nothing, Whole.Whole}, passed.Seen.Seen, playing.{Difference.Difference, Judgement.Judgement, Playing.Playing}}}
+use Rattle.tc_judge.specs.{Check.{AreAllLegal, Checks, IsLegalBlock, legal_line, counting, is_passing}, Compared.{IsCompared, IsJudged, has_block_named, has_later, missing}, declared.{compare.{Comparing.Comparing, Comparison.Comparison, Wrong.Wrong}, judged.{Judged.Judged, Recorded.Recorded}, kept.{Nothing.Nothing, Whole.Whole}, passed.Seen.Seen, playing.{Difference.Difference, Judgement.Judgement, Playing.Playing}}}
 
 -- the name of a block
 abbrev pub block_name : Block → Word

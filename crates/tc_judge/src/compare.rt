@@ -79,6 +79,7 @@ fn is_course_of(alloc: Global, scripts: &[Script], block: &Judged<Whole>) -> Res
 }
 
 // The names of test cases, which are different.
+#[tactic(auto, using(crate::proofs::Beside::name_more))]
 fn names_of(alloc: Global, cases: &[Case<Script>]) -> Result<IndexSet<Name>, NoMemory>
     requires { AreComparable cases.now }
     ensures { IfOk result (λ names. names.keys ≡ map (λ k. k.name) cases.now) }

@@ -101,6 +101,7 @@ fn unpassed_cases(
 }
 
 /// The test cases that a run is asked for, of the campaign that the text spells.
+#[tactic(auto, using(crate::proofs::Passing::to_run_rules))]
 pub fn cases_to_run(
     alloc: Global,
     text: &[u8],

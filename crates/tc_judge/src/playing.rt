@@ -118,6 +118,7 @@ impl Playing {
     }
 
     /// Plays the entry in this line, unless the table gave another reply to one before it.
+    #[tactic(auto, using(crate::proofs::Lemmas::passed_played))]
     #[inline(never)]
     pub(crate) fn play(&mut self, line: usize, entry: &Entry) -> Result<(), NoMemory>
         ensures { OnOk result (PlaysNext line (Line.Entry entry.now) self.old self.new) }
@@ -136,6 +137,7 @@ impl Playing {
     }
 
     /// The same, if its operation is a short one.
+    #[tactic(auto, using(crate::proofs::Lemmas::passed_played))]
     #[inline(always)]
     pub(crate) fn play_short(
         &mut self,

@@ -96,6 +96,7 @@ pub(crate) fn noted_status(notes: &[u8], status: u8) -> u8
 }
 
 // The answer for test cases, with lines for standard error.
+#[tactic(auto, using(crate::proofs::Judging::answer_made))]
 fn legal_answer(
     alloc: Global,
     form: &ReportForm,

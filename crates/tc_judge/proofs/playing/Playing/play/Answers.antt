@@ -1,15 +1,6 @@
-use Rattle.std.{proofs.Common.{◌≡◌, true, false, arith}, specs.Prelude.is_some}
-use Rattle.tc_blocks.specs.declared.line.Line.{Line}
-use Rattle.tc_judge.proofs.Lemmas.{entry_played, passed_played}
+use Rattle.std.{proofs.Common.{◌≡◌, false, arith}, specs.Prelude.is_some}
+use Rattle.tc_judge.proofs.Lemmas.{entry_played}
 use Rattle.tc_judge.proofs.playing.Playing.play.Goals as goal
-
-pub returns-then-is_some : goal.returns-then-is_some
-returns-then-is_some c first_line h lines here played =
-    let p = c.args.self.now in
-    let said = c.is_some.ensures in
-    let tested = c.if-is_some.true in
-    let some : is_some p.difference ≡ true = cc in
-    (played.0, passed_played h.behaviours first_line lines (Line.Entry c.args.entry.now) p.state p.entries p.difference some played.1)
 
 pub returns-in_default : goal.returns-in_default
 returns-in_default c first_line h lines here played =

@@ -1,17 +1,9 @@
-use Rattle.std.{proofs.Common.{◌≡◌, true, false, arith, subst}, specs.Prelude.is_some}
+use Rattle.std.{proofs.Common.{◌≡◌, false, arith, subst}, specs.Prelude.is_some}
 use Rattle.tc_text.specs.Prelude.{op_of}
-use Rattle.tc_blocks.specs.{Prelude.short_entry, declared.line.Line.Line}
+use Rattle.tc_blocks.specs.{Prelude.short_entry}
 use Rattle.tc_rules.specs.Prelude.{IsReplyOf, TakesIn}
-use Rattle.tc_judge.proofs.Lemmas.{entry_played, passed_played}
+use Rattle.tc_judge.proofs.Lemmas.{entry_played}
 use Rattle.tc_judge.proofs.playing.Playing.play_short.Goals as goal
-
-pub returns-then-is_some : goal.returns-then-is_some
-returns-then-is_some c first_line h lines here played =
-    let p = c.args.self.now in
-    let said = c.is_some.ensures in
-    let tested = c.if-is_some.true in
-    let some : is_some p.difference ≡ true = cc in
-    (played.0, passed_played h.behaviours first_line lines (Line.Entry (short_entry c.args.caller c.args.op c.args.given)) p.state p.entries p.difference some played.1)
 
 pub returns-then-same : goal.returns-then-same
 returns-then-same c first_line h lines here played =
