@@ -1,10 +1,12 @@
 -- What comes of a text, and of an input.
-use Rattle.std.{proofs.Common.{ℕ, Bool, false, true, ◌&&◌, ◌≡◌, ◌∙◌, ◌≤◌, List, Option, IfOk, IfSome, if◌then◌else◌, Result, Ok, Err, inl, inr, length, refl, subst, sym}, specs.{Prelude.{◌≢◌, ◌⊎◌, not, MatchBool, MatchResult}, Global.Vec, Io.KnownBytes.Keeps}}
+use Rattle.std.{proofs.Common.{ℕ, Bool, false, true, ◌&&◌, ◌≡◌, ◌∙◌, List, Option, IfOk, IfSome, if◌then◌else◌, Result, Ok, Err, inl, inr, refl, subst, sym}, specs.{Prelude.{◌≢◌, ◌⊎◌, MatchBool, MatchResult}, Global.Vec, Io.KnownBytes.Keeps}}
 use Rattle.tc_text.{specs.Prelude.{Line, TellsAmong}, proofs.Lemmas.Among.among_some}
-use Rattle.tc_answer.specs.{declared.{fault.RunFault.RunFault, outcome.Outcome.Outcome, reply.Answer.Answer}, Prelude.{GivesAnswer, number_of, run_fault_line, IsUnread, IsPrintedRefusal, Streams}}
+use Rattle.tc_answer.specs.{declared.{fault.RunFault.RunFault, outcome.Outcome.Outcome, reply.Answer.Answer}, Prelude.{GivesAnswer, number_of, run_fault_line, IsUnread, IsPrintedRefusal, RefusesChoice, Streams}, Inside.AreReadyAs}
+use Rattle.tc_exec.specs.declared.test_case.Case.{Case}
+use Rattle.tc_step.specs.Prelude.{ScriptView}
 use Rattle.tc_command.specs.declared.task.{Choice.Choice, RunOptions.RunOptions, Task.Task}
-use Rattle.tc_judge.specs.{Prelude.{IsChecked, IsMadeOfInput, IsSilent, RefusesBlocks, IsUnreadIn, history_limit}, Check.NameBlocks, Inside.{block_name, is_picked}}
-use Rattle.tc_program.specs.{Alone.IsNotBegun, Explained.{explains, is_of_text, part_of}, Inside.{IsMadeInParts, IsToldOf, IsUnbegun, WritesTo, notes_of}, Limits.{has_blocks, limit_of, is_long, text_limit}, Made.{Does, IsMade}, Program.{IsCarriedOut, IsDone, IsDoneBy}}
+use Rattle.tc_judge.specs.{Prelude.{AreToRun, IsChecked, IsMadeOfInput, IsSilent, RefusesAgainst, RefusesBlocks, IsUnreadIn, history_limit}, Check.NameBlocks, Inside.{block_name, is_picked}}
+use Rattle.tc_program.specs.{Explained.{explains, is_of_text, part_of}, Inside.{IsAsked, IsMadeInParts, IsToldOf, WritesTo, notes_of}, Limits.{has_blocks, limit_of}, Made.{Does, IsMade}, Program.{IsCarriedOut, IsDone, IsDoneBy}}
 use Rattle.tc_blocks.specs.{Prelude.{IsInLimit, IsReadIn}, declared.limit.Limit.Limit}
 
 -- what comes of an input that is read is what comes of its text
@@ -19,15 +21,10 @@ pub lent_does : (task : Task) (input before after : Option (List ℕ)) (text len
     → IfSome input (λ given. text ≡ given) → WritesTo task lent before after r → Does task input before after r
 lent_does task input before after text lent r same fits all does = read_does task input before after text r fits all (subst (λ t. WritesTo task t before after r) same does)
 
--- a text that is kept has as many bytes as it may have
-pub fits_kept : (task : Task) (text : List ℕ) → is_long task ≡ false → length text ≤ text_limit task → IsInLimit (limit_of task) text
-fits_kept task text kept fits = subst (λ l. IsInLimit (if l then Limit.Blocks (text_limit task) else Limit.Whole (text_limit task)) text) (sym kept) fits
-
 -- a task that explains a fault keeps its text
-pub not_long : (asks long : Bool) → (asks && not long) ≡ true → long ≡ false
-not_long asks false is = refl
-not_long true true is = absurd cc
-not_long false true is = absurd cc
+pub and_right : (a b : Bool) → (a && b) ≡ true → b ≡ true
+and_right true b is = is
+and_right false b is = absurd cc
 
 pub and_true : (a b : Bool) → b ≡ true → (a && b) ≡ a
 and_true true b is = is
@@ -36,18 +33,7 @@ and_true false b is = refl
 -- why there is none
 pub unread_whole : (most : ℕ) (input : Option (List ℕ)) (fault : RunFault) → IsUnread most input fault → IsUnreadIn (Limit.Whole most) input fault
 unread_whole most input RunFault.TooLong is = is
-unread_whole most input RunFault.Read is = is
-unread_whole most input RunFault.NoMemory is = is
-unread_whole most input fault is = absurd is
-
-pub unread_kept : (task : Task) (input : Option (List ℕ)) (fault : RunFault) → is_long task ≡ false → IsUnread (text_limit task) input fault → IsUnreadIn (limit_of task) input fault
-unread_kept task input fault kept is =
-    subst (λ l. IsUnreadIn (if l then Limit.Blocks (text_limit task) else Limit.Whole (text_limit task)) input fault) (sym kept) (unread_whole (text_limit task) input fault is)
-
--- a task that makes an answer is done if the answer is given
-pub done_by : (task : Task) (Made : Result Answer RunFault → Type 0) (Refused : RunFault → Type 0) (Runs : RunOptions → Type 0) (a : Answer) (s : Streams) (outcome : Outcome)
-    → Made (Ok a) → GivesAnswer a s outcome → IsDoneBy task Made Refused Runs s outcome
-done_by task Made Refused Runs a s outcome makes given = IsDoneBy.made a makes given
+unread_whole most input fault is = is
 
 -- what the program does with a task by its whole input: it was read, and the text is done; or it was not, nothing was
 -- written, and why is printed
@@ -68,7 +54,7 @@ pub parts_given : (task : Task) (input : Option (List ℕ)) (made : Result Answe
 parts_given task input made a s outcome parts is gives = carried_out task input s outcome parts.2 (by parts.0)
   where
     by : IsMadeOfInput (limit_of task) input (IsMade task) made → IsDoneWhole task input s outcome
-    by (inl read) = inl (read.0, read.1, read.2, done_by task (IsMade task read.0) _ _ a s outcome (subst (IsMade task read.0) is read.3) gives)
+    by (inl read) = inl (read.0, read.1, read.2, IsDoneBy.made a (subst (IsMade task read.0) is read.3) gives)
     by (inr unread) = let no : Ok a ≡ Err unread.0 = sym is ∙ unread.1 in absurd cc
 
 -- or there is none, and no fault is explained
@@ -120,14 +106,27 @@ unchecked choice explains input before after fault (inl read) keeps = (inr read,
 unchecked choice explains input before after fault (inr unread) keeps =
     let same : fault ≡ unread.0 = cc in (inl (subst (IsUnreadIn (history_limit choice.long) input) (sym same) unread.2), keeps)
 
--- where no thread can be started, a text that is lent is done or left, so the task is carried out by its whole input or left
-pub done_or_left : (task : Task) (input : Option (List ℕ)) (text lent : List ℕ) (s : Streams) (outcome : Outcome) → lent ≡ text → IsInLimit (limit_of task) text
-    → IfSome input (λ given. text ≡ given) → task ≢ Task.Serve → IsDone task lent s outcome ⊎ IsNotBegun task lent s outcome → IsCarriedOut task input s outcome ⊎ IsUnbegun task input s outcome
-done_or_left task input text lent s outcome same fits all other (inl done) =
-    inl (carried_out task input s outcome other (inl (text, fits, all, subst (λ t. IsDone task t s outcome) same done)))
-done_or_left (Task.Run o) input text lent s outcome same fits all other (inr left) =
-    inr (text, fits, all, subst (λ t. IsNotBegun (Task.Run o) t s outcome) same left)
-done_or_left task input text lent s outcome same fits all other (inr left) = absurd left
+-- a task that asks to run test cases is carried out by what comes of them
+pub asked_done : (task : Task) (input : Option (List ℕ)) (o : RunOptions) (ready : List (Case ScriptView)) (s : Streams) (outcome : Outcome) → IsAsked task input o ready
+    → ((text : List ℕ) → AreReadyAs (AreToRun o.choice text) ready → IsDone task text s outcome) → IsCarriedOut task input s outcome
+asked_done task input o ready s outcome asked does =
+    let read = asked.1 in
+    carried_out task input s outcome (λ serve. let no : Task.Run o ≡ Task.Serve = sym asked.0 ∙ serve in absurd cc) (inl (read.0, read.1, read.2, does read.0 read.3))
+
+-- nothing more is printed where memory runs out
+unexplained : (b : Bool) (P Q : Type 0) → Q → MatchBool (b && false) P Q
+unexplained true P Q q = q
+unexplained false P Q q = q
+
+refuses_run : (failed : Bool) (choice : Choice) (text : List ℕ) 
+    → (let R : List ℕ → RunFault → Type 0 = elim failed [ true ↦ RefusesAgainst choice | false ↦ RefusesChoice choice ] in R text RunFault.NoMemory)
+refuses_run true choice text = tt
+refuses_run false choice text = tt
+
+pub short_of_memory : (task : Task) (text : List ℕ) (o : RunOptions) (s : Streams) (outcome : Outcome) → task ≡ Task.Run o → Keeps s.before s.after
+    → IsPrintedRefusal s.untold s.told (run_fault_line RunFault.NoMemory) outcome → IsDone task text s outcome
+short_of_memory task text o s outcome is keeps refusal =
+    IsDoneBy.refused RunFault.NoMemory (subst (λ t. IsMade t text (Err RunFault.NoMemory)) (sym is) (refuses_run o.choice.failed o.choice text)) keeps (run_fault_line RunFault.NoMemory, unexplained (explains task) _ _ refl, refusal)
 
 -- ---- what is printed about a text that is refused
 

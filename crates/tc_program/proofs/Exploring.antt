@@ -1,5 +1,5 @@
 -- Test cases that are taken one after the other.
-use Rattle.std.{proofs.{Common.{ℕ, ◌≡◌, ◌∙◌, ◌++◌, ◌∷◌, Bool, true, false, List, [], arith, length, refl, ap, sym, subst}, lemmas.{Grind.common_steps, List.append-nil}}, specs.List.AllZip}
+use Rattle.std.{proofs.{Common.{ℕ, ◌≡◌, ◌∙◌, ◌++◌, ◌∷◌, Bool, true, false, List, [], refl, ap, sym, subst}, lemmas.List.append-nil}, specs.List.AllZip}
 use Rattle.tc_exec.{proofs.Lemmas.Taking.done_none, specs.{Inside.AreDone, declared.test_case.Case.Case}}
 use Rattle.tc_command.specs.declared.task.ExploreOptions.{ExploreOptions}
 use Rattle.tc_step.specs.Prelude.{ScriptView}
@@ -9,10 +9,6 @@ use Rattle.tc_program.specs.{Explore.{IsExplored, TellsLocals}, Inside.{IsExplor
 -- at first none is done
 pub done_start : {A B : Type 0} (R : A → B → Type 0) (all left : List A) (ys : List B) → left ≡ all → ys ≡ [] → AreDone R all left ys
 done_start R all left ys same none = subst (λ l. AreDone R all left l) (sym none) (done_none R all left same)
-
-pub none_left : {A : Type 0} (left : List A) → length left ≡ 0 → left ≡ []
-none_left [] none = refl
-none_left (x ∷ xs) none = absurd (grind (arith, common_steps, none))
 
 -- if none is left, all are done
 pub done_all : {A B : Type 0} (R : A → B → Type 0) (all left : List A) (ys : List B) → AreDone R all left ys → left ≡ [] → AllZip R all ys

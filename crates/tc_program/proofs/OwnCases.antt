@@ -1,26 +1,20 @@
 -- Test cases of a program's own, as a task asks for them.
-use Rattle.std.{proofs.Common.{ℕ, ◌≡◌, ◌++◌, ◌∷◌, [], All, Bool, false, true, List, Option, ap₂, IfOk, Result, Ok, Err, inl, inr, refl, subst, sym}, specs.{Prelude.{◌≢◌, ◌⊎◌}, Global.Vec, List.AllZip}}
+use Rattle.std.{proofs.Common.{ℕ, ◌≡◌, ◌++◌, ◌∷◌, [], All, Bool, false, true, List, Option, ap₂, IfOk, Result, Ok, Err, inl, inr, refl, subst, sym}, specs.{Prelude.{◌≢◌, codes}, Global.Vec, Io.KnownBytes.Keeps, List.AllZip}}
 use Rattle.tc_book.specs.Prelude.{PassState}
 use Rattle.tc_campaign.specs.Prelude.{AreBack, IsCalled, HasNames, outline_of}
-use Rattle.tc_answer.{specs.{Prelude.{CaseView, case_name, chosen, have_names, AreChosenOf, run_fault_line, IsPrintedRefusal, Streams}, Inside.{IsCaseOf, RefusesNames, script_name}, declared.{fault.RunFault.RunFault, outcome.Outcome.Outcome, reply.Answer.Answer}}, proofs.Lemmas.Chosen.all_chosen}
+use Rattle.tc_answer.{specs.{Prelude.{CaseView, case_name, chosen, have_names, AreChosenOf, run_fault_line, said, IsPrintedRefusal, Streams}, Inside.{IsCaseOf, RefusesNames, script_name}, declared.{fault.RunFault.RunFault, outcome.Outcome.Outcome}}, proofs.Lemmas.Chosen.all_chosen}
 use Rattle.tc_exec.specs.declared.{job.Back.Back, test_case.Case.Case}
 use Rattle.tc_command.specs.{Prelude.{IsCasesReading, IsReading}, declared.{read.Refused.Refused, task.{Choice.Choice, RunOptions.RunOptions, Task.Task}}}
 use Rattle.tc_report.specs.declared.fault.OutFault.{OutFault}
 use Rattle.tc_run.specs.Prelude.{of_output, IsRun, IsUnwrittenRun}
 use Rattle.tc_step.specs.Prelude.{ScriptView}
-use Rattle.tc_program.specs.{Alone.IsAnsweredAlone, Answer.{IsAnsweredBy, IsRefused}, Cases.{DoesCases, IsMadeOfCases, RefusesCases, WereMade}, Inside.{IsOfCases, IsUnbegun, list_text}, Made.IsListed, Program.{IsCarriedOut, IsDoneBy}}
+use Rattle.tc_program.specs.{Alone.{IsAnsweredAlone, IsNotBegun}, Answer.{IsAnsweredBy, IsRefused}, Cases.{DoesCases, RefusesCases, WereMade}, Inside.{IsAsked, IsOfCases, list_text}, Program.IsDoneBy}
 
 -- what such arguments ask for is a run or a list
 pub of_cases : (words : List (List ℕ)) (task : Task) → IsCasesReading words (Ok task) → IsOfCases task
 of_cases words (Task.Run o) reads = tt
 of_cases words (Task.List choice explains) reads = tt
-of_cases words (Task.Replay explains) reads = absurd reads.1
-of_cases words (Task.Check choice explains) reads = absurd reads.1
-of_cases words (Task.Compare form choice explains) reads = absurd reads.1
-of_cases words (Task.Report form choice explains) reads = absurd reads.1
-of_cases words (Task.Model choice explains) reads = absurd reads.1
-of_cases words (Task.Explore o) reads = absurd reads.1
-of_cases words Task.Serve reads = absurd reads.1
+of_cases words task reads = absurd reads.1
 
 -- such a task is one of these two
 pub no_other : (task : Task) → IsOfCases task → ((o : RunOptions) → task ≢ Task.Run o) → ((choice : Choice) (explains : Bool) → task ≢ Task.List choice explains) → ⊥
@@ -32,11 +26,13 @@ no_other task is no_run no_list = is
 pub of_value : {V E : Type 0} (P : V → Type 0) (r : Result V E) (v : V) → r ≡ Ok v → P v → IfOk r P
 of_value P r v is holds = subst (λ x. IfOk x P) (sym is) holds
 
--- arguments that are a task are answered without threads if it is done, or is a run that is not begun
-pub alone_answered : (words : List (List ℕ)) (task : Task) (input : Option (List ℕ)) (s : Streams) (Unread Unwritten : Type 0) (outcome : Outcome) → IsReading false words (Ok task)
-    → IsCarriedOut task input s outcome ⊎ IsUnbegun task input s outcome → IsAnsweredAlone words input s Unread Unwritten outcome
-alone_answered words task input s Unread Unwritten outcome reads (inl done) = inl (record { answer = Ok task; reading = reads; task = done; no_task = tt; unread = tt })
-alone_answered words task input s Unread Unwritten outcome reads (inr left) = inr (task, reads, left)
+-- arguments that ask to run test cases are answered without threads if it is said that they are not
+pub not_begun : (words : List (List ℕ)) (task : Task) (input : Option (List ℕ)) (o : RunOptions) (ready : List (Case ScriptView)) (s : Streams) (Unread Unwritten : Type 0) (outcome : Outcome)
+    → IsReading false words (Ok task) → IsAsked task input o ready → Keeps s.before s.after
+    → IsPrintedRefusal s.untold s.told (said (codes "a run needs threads, and there are none here: try explore")) outcome → IsAnsweredAlone words input s Unread Unwritten outcome
+not_begun words task input o ready s Unread Unwritten outcome reads asked keeps refusal =
+    let read = asked.1 in
+    inr (task, reads, (read.0, read.1, read.2, subst (λ t. IsNotBegun t read.0 s outcome) (sym asked.0) ((read.3.cases, read.3.chosen), keeps, refusal)))
 
 module _ (Reads : Result Task Refused → Type 0) (Does : Task → Type 0) (s : Streams) (Unwritten : Type 0) (outcome : Outcome) where
   -- arguments that are a task are answered if it is done
@@ -59,19 +55,6 @@ module _ {B E : Type 0} (made : Result (Vec (Case B)) E) where
   unchosen_made v choice RunFault.Only is have = (v.items, subst (λ r. WereMade r v.items) (sym is) refl, have)
   unchosen_made v choice RunFault.NoMemory is have = tt
   unchosen_made v choice fault is have = absurd have
-
-  -- the list of the chosen ones is what a task makes that asks for it
-  pub list_made : (task : Task) (choice : Choice) (explains : Bool) (a : Answer) → task ≡ Task.List choice explains → IsListed case_name (AreChosenOf case_name (WereMade made) choice) a
-      → IsMadeOfCases (WereMade made) task (Ok a)
-  list_made task choice explains a is listed = subst (λ t. IsMadeOfCases (WereMade made) t (Ok a)) (sym is) listed
-
-  pub list_refused : (task : Task) (choice : Choice) (explains : Bool) (fault : RunFault) → task ≡ Task.List choice explains → RefusesCases (WereMade made) choice fault
-      → IsMadeOfCases (WereMade made) task (Err fault)
-  list_refused task choice explains fault is refused = subst (λ t. IsMadeOfCases (WereMade made) t (Err fault)) (sym is) refused
-
-  pub run_refused : (task : Task) (o : RunOptions) (fault : RunFault) → task ≡ Task.Run o → RefusesCases (WereMade made) o.choice fault
-      → IsMadeOfCases (WereMade made) task (Err fault)
-  run_refused task o fault is refused = subst (λ t. IsMadeOfCases (WereMade made) t (Err fault)) (sym is) refused
 
 -- chosen ones of test cases with names of their behaviours have such names
 pub named_still : {B E : Type 0} (made : Result (Vec (Case B)) E) (choice : Choice) (ks : List (Case B)) → IfOk made (λ v. All HasNames v.items)

@@ -33,10 +33,7 @@ summaries_written kind line (f ∷ fs) all =
 -- each form but the text report is made of the text of all blocks
 whole_body : (form : ReportForm) (text : List ℕ) (chosen : List Block) → form ≢ ReportForm.Text → body_of form text chosen ≡ text
 whole_body ReportForm.Text text chosen other = absurd (other refl)
-whole_body ReportForm.Csv text chosen other = refl
-whole_body (ReportForm.Junit suite) text chosen other = refl
-whole_body ReportForm.Html text chosen other = refl
-whole_body ReportForm.Summary text chosen other = refl
+whole_body form text chosen other = refl
 
 module _ (kind : Kind) (r : Results) (ran : WereRun kind r) where
   checked_so : (a : Answer) → IsChecked false each (blocks_text kind r) a.out a.status → a.told ≡ [] → a ≡ answer_of (flat_map legal_case r.finished) [] 0

@@ -103,21 +103,17 @@ namings_inside n run (name ∷ names) before es few named unmet fit = (
       (unmet_more run name before unmet) fit,
 )
 
-take_few : {A : Type 0} (n : ℕ) (xs : List A) → length (take n xs) ≤ n
-take_few n xs = omega (arith, length-take n xs)
-
 -- the lines of finished test cases may be inside of a history of format 2, and of evidence
 inside_of : (kind : Kind) (f : Finished) → kind ≢ Kind.History1 → FitsItsTypes f → AreLines kind f.report.behaviours [] (case_lines kind f)
 inside_of Kind.History1 f other fits = absurd (other refl)
 inside_of Kind.History2 f other fits = entries_inside Kind.History2 f.report.behaviours [] f.report.history refl fits.2
 inside_of Kind.Evidence f other fits =
     namings_inside f.report.behaviours 0 (take f.report.behaviours f.names) [] f.report.history
-    (omega (arith, take_few f.report.behaviours f.names)) (All-take IsName f.report.behaviours f.names fits.1) (λ k later. refl) fits.2
+    (omega (arith, length-take f.report.behaviours f.names)) (All-take IsName f.report.behaviours f.names fits.1) (λ k later. refl) fits.2
 
 second : (kind : Kind) → kind ≢ Kind.History1 → format_of kind ≡ 2
 second Kind.History1 other = absurd (other refl)
-second Kind.History2 other = refl
-second Kind.Evidence other = refl
+second kind other = refl
 
 pub reported_were_run : (kind : Kind) (cases : List Outline) (r : Results) → kind ≢ Kind.History1 → All FitsItsTypes r.finished → AreReported cases r → WereRun kind r
 reported_were_run kind cases r other fit reported = record {

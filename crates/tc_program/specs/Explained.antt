@@ -1,10 +1,10 @@
 -- What is printed about a text that is refused.
-use Rattle.std.specs.{Prelude.{ℕ, Bool, MatchBool, true, false, ◌≡◌, ◌&&◌, not, Option, List, []}, Option.option_map_or}
+use Rattle.std.specs.{Prelude.{ℕ, Bool, MatchBool, true, false, ◌≡◌, ◌&&◌, Option, List, []}, Option.option_map_or}
 use Rattle.tc_explain.specs.Prelude.{explanation}
 use Rattle.tc_text.specs.Prelude.{TellsAmong}
 use Rattle.tc_command.specs.declared.task.Task.{Task}
 use Rattle.tc_answer.specs.{declared.{fault.RunFault.RunFault, outcome.Outcome.Outcome}, Prelude.{blocks_part, script_part, run_fault_line, IsPrintedRefusal, number_of}}
-use Rattle.tc_program.specs.Limits.{has_blocks, is_long}
+use Rattle.tc_program.specs.Limits.{has_blocks, is_whole, limit_of}
 
 -- the task is asked to explain a fault of its text
 abbrev pub asks_why : Task → Bool
@@ -20,7 +20,7 @@ asks_why Task.Serve = false
 
 -- the task explains a fault of its text, which it has then
 abbrev pub explains : Task → Bool
-explains task = asks_why task && not (is_long task)
+explains task = asks_why task && is_whole (limit_of task)
 
 -- the part of a text that the lines of this fault are counted in: all of it, or, of a script with blocks after it, the script
 -- or the blocks

@@ -10,11 +10,11 @@ use Rattle.tc_step.specs.Prelude.{ScriptView}
 use Rattle.tc_blocks.specs.{Prelude.{AreEntries, AreLines, IsHeader, IsReadIn}, declared.{block.Block.Block, header.Kind.Kind}}
 use Rattle.tc_report.specs.{Inside.{case_lines, finished_header}, declared.results.{Finished.Finished, Results.Results}}
 use Rattle.tc_exec.specs.declared.test_case.Case.{Case}
-use Rattle.tc_answer.specs.{Prelude.{CaseView, Streams, held_streams, number_of, run_fault_line}, Inside.IsCaseOf, declared.{fault.RunFault.RunFault, outcome.Outcome.Outcome, reply.Answer.Answer}}
-use Rattle.tc_judge.specs.Prelude.{IsMadeOfInput, counting, is_chosen, legal_line}
-use Rattle.tc_command.specs.declared.{read.Refused.Refused, task.{Choice.Choice, ExploreOptions.ExploreOptions, Task.Task}}
+use Rattle.tc_answer.specs.{Prelude.{CaseView, held_streams, number_of, run_fault_line}, Inside.{AreReadyAs, IsCaseOf}, declared.{fault.RunFault.RunFault, outcome.Outcome.Outcome, reply.Answer.Answer}}
+use Rattle.tc_judge.specs.Prelude.{AreToRun, IsMadeOfInput, counting, is_chosen, legal_line}
+use Rattle.tc_command.specs.declared.{read.Refused.Refused, task.{Choice.Choice, ExploreOptions.ExploreOptions, RunOptions.RunOptions, Task.Task}}
 use Rattle.tc_run.specs.Prelude.{LeavesUnwritten}
-use Rattle.tc_program.specs.{Alone.IsNotBegun, Answer.IsRefused, Explained.{explains, is_of_text, part_of}, Explore.{IsExplored, TellsLocals}, Limits.{has_blocks, limit_of}, Made.IsMade, Model.{AnswersBlocks, are_named}, Program.IsDone, declared.{explore.ExploredCase.ExploredCase, replaying.Replaying.Replaying}}
+use Rattle.tc_program.specs.{Answer.IsRefused, Explained.{explains, is_of_text, part_of}, Explore.{IsExplored, TellsLocals}, Limits.{has_blocks, limit_of}, Made.IsMade, Model.{AnswersBlocks, are_named}, declared.{explore.ExploredCase.ExploredCase, replaying.Replaying.Replaying}}
 
 -- the caller, and the call
 abbrev pub move_of : Entry → Move
@@ -87,27 +87,15 @@ IsMadeOf choice all (Err RunFault.Only) = are_named choice (counting choice.last
 IsMadeOf choice all (Err RunFault.NoMemory) = Unit {0}
 IsMadeOf choice all (Err fault) = ⊥
 
--- the answer is what a task makes of the text
-abbrev pub Makes : Task → List ℕ → Answer → Type 0
-Makes task text a = IsMade task text (Ok a)
-
--- a task refuses the text for this fault
-abbrev pub Refuses : Task → List ℕ → RunFault → Type 0
-Refuses task text fault = IsMade task text (Err fault)
-
 -- what is made of the text was written, whole or a prefix; or the text is refused, and nothing was
 abbrev pub WritesTo : Task → List ℕ → Option (List ℕ) → Option (List ℕ) → Result ℕ RunFault → Type 0
-WritesTo task text before after (Ok status) = (a : Answer) × Makes task text a × Appends before after a.out × (status ≡ a.status)
-WritesTo task text before after (Err RunFault.Write) = (a : Answer) × Makes task text a × AppendsPrefix before after a.out
-WritesTo task text before after (Err fault) = Refuses task text fault × Keeps before after
+WritesTo task text before after (Ok status) = (a : Answer) × IsMade task text (Ok a) × Appends before after a.out × (status ≡ a.status)
+WritesTo task text before after (Err RunFault.Write) = (a : Answer) × IsMade task text (Ok a) × AppendsPrefix before after a.out
+WritesTo task text before after (Err fault) = IsMade task text (Err fault) × Keeps before after
 
--- the task is a run of test cases that the input spells, and was not begun
-abbrev pub IsUnbegun : Task → Option (List ℕ) → Streams → Outcome → Type 0
-IsUnbegun task input s outcome = IsReadIn (limit_of task) input (λ text. IsNotBegun task text s outcome)
-
--- by this, a task is done if this is made of its text
-abbrev pub Finishes : Task → List ℕ → Result Answer RunFault → Streams → Outcome → Type 0
-Finishes task text made s outcome = IsMade task text made → IsDone task text s outcome
+-- the task is a run, and the text of the input spells these test cases, which it asks for
+abbrev pub IsAsked : Task → Option (List ℕ) → RunOptions → List (Case ScriptView) → Type 0
+IsAsked task input o ready = (task ≡ Task.Run o) × IsReadIn (limit_of task) input (λ text. AreReadyAs (AreToRun o.choice text) ready)
 
 -- a task that is done with test cases of a program's own
 abbrev pub IsOfCases : Task → Type 0

@@ -1,5 +1,5 @@
 -- What `serve` writes, prints and ends with.
-use Rattle.std.specs.{Prelude.{ℕ, ◌≡◌, Bool, true, false, if◌then◌else◌, List, Option, Result, Ok, Err}, Io.KnownBytes.Keeps}
+use Rattle.std.specs.{Prelude.{ℕ, ◌≡◌, Bool, true, if◌then◌else◌, List, Option, Result, Ok, Err}, Io.KnownBytes.Keeps}
 use Rattle.tc_report.specs.Prelude.{verdict_status}
 use Rattle.tc_serve.specs.{declared.service.{ServeFault.ServeFault, Ending.Ending, Served.Served}, Prelude.{IsServiceEnd, devices, refused_line_text}}
 use Rattle.tc_answer.specs.{declared.{fault.RunFault.RunFault, outcome.Outcome.Outcome}, Prelude.{run_fault_line, Streams, IsPrintedRefusal}}
@@ -20,9 +20,9 @@ service_status (Err fault) = 3
 -- the outcome of a service that ended so: if standard error has taken all so far, the line of its fault is printed, and
 -- otherwise nothing more
 abbrev pub IsServiceStatus : Bool → Result Served ServeFault → Option (List ℕ) → Option (List ℕ) → Outcome → Type 0
-IsServiceStatus true (Ok served) untold told outcome = Keeps untold told × (outcome ≡ record { status = service_status (Ok served); told = Ok tt })
 IsServiceStatus true (Err fault) untold told outcome = IsPrintedRefusal untold told (service_line fault) outcome
-IsServiceStatus false ended untold told outcome = Keeps untold told × (outcome ≡ record { status = service_status ended; told = Err RunFault.Write })
+IsServiceStatus taken ended untold told outcome =
+    Keeps untold told × (outcome ≡ record { status = service_status ended; told = if taken then Ok tt else Err RunFault.Write })
 
 -- the input was served, line by line, until it or the service ended, and that was settled
 pub record Serves (input : Option (List ℕ)) (s : Streams) (outcome : Outcome) : Type 0 where

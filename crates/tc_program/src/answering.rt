@@ -5,9 +5,9 @@ ghost use Rattle.clap.specs.Values.{kind_of};
 ghost use Rattle.clap.specs.declared.error.kind.ErrorKind.TheVariants.{DisplayHelp, DisplayVersion, OutOfMemory};
 ghost use Rattle.tc_answer.specs.Prelude.{run_fault_line, IsPrintedRefusal, held_streams};
 ghost use Rattle.tc_answer.specs.declared.fault.RunFault.TheVariants.{NoMemory as WithoutMemory};
-ghost use Rattle.tc_program.specs.{Answer.AnswersWords, Answer.IsHelped, Answer.IsUnreadInput, Inside.IsMistake, Inside.ShowsNoTask, Inside.ShowsText};
+ghost use Rattle.tc_program.specs.{Alone.IsAnsweredAlone, Answer.AnswersWords, Answer.IsHelped, Answer.IsUnreadInput, Inside.IsMistake, Inside.ShowsNoTask, Inside.ShowsText};
 
-use crate::carrying_out::carry_out;
+use crate::carrying_out::{begin, carry_out};
 use clap::Error;
 use clap::error::ErrorKind;
 use std::alloc::Global;
@@ -131,5 +131,37 @@ where
     match read_task(alloc, words.as_slice(), at_terminal) {
         Ok(task) => carry_out(rt, alloc, &task, reader, writer, errors),
         Err(refused) => answer_refused(alloc, &refused, writer, errors),
+    }
+}
+
+/// Does what the arguments ask for, as `answer` does, but begins no run: it says that a run needs threads.
+pub fn answer_alone<I: Read, W: Write, E: Write>(
+    alloc: Global,
+    words: io::Result<Vec<String>>,
+    reader: &mut I,
+    writer: &mut W,
+    errors: &mut E,
+) -> Outcome
+    ensures had { IfOk words (λ given. IsAnsweredAlone (map string_bytes given.items) (I.remaining reader.old)
+        (held_streams W.contents writer.old writer.new E.contents errors.old errors.new)
+        (reader.new ≡ reader.old) (writer.new ≡ writer.old) result) }
+    ensures not_had { IfErr words (λ error. IsUnreadInput (error_kind error) (E.contents errors.old) (E.contents errors.new) result) }
+    ensures unwritten { OnErr words (writer.new ≡ writer.old) }
+{
+    let words = match words {
+        Ok(words) => words,
+        Err(error) => return answer_unread(alloc, &error, errors),
+    };
+    let task = match read_task(alloc, words.as_slice(), false) {
+        Ok(task) => task,
+        Err(refused) => return answer_refused(alloc, &refused, writer, errors),
+    };
+    match begin(alloc, &task, reader, writer, errors) {
+        Ok(_) => refuse_words(
+            alloc,
+            errors,
+            "a run needs threads, and there are none here: try explore",
+        ),
+        Err(outcome) => outcome,
     }
 }

@@ -1,10 +1,10 @@
 //! What the program does with a task.
-ghost use Rattle.std.specs.Prelude.{◌≡◌, ◌≢◌, false, IfErr, IfOk, MatchOption};
-ghost use Rattle.tc_answer.specs.Inside.{AreReadyAs};
+ghost use Rattle.std.specs.Prelude.{◌≡◌, ◌≢◌, true, IfErr, IfOk, MatchOption, OnOk};
 ghost use Rattle.tc_command.specs.declared.task.Task.TheVariants.{Run, Serve};
-ghost use Rattle.tc_judge.specs.Prelude.{AreToRun, RefusesRun};
+ghost use Rattle.tc_judge.specs.Prelude.{AreToRun};
+ghost use Rattle.tc_answer.specs.Inside.{AreReadyAs};
 ghost use Rattle.tc_answer.specs.Prelude.{held_streams};
-ghost use Rattle.tc_program.specs.{Inside.IsMadeInParts, Limits.is_long, Made.IsMade, Program.IsCarriedOut, Program.IsDone};
+ghost use Rattle.tc_program.specs.{Inside.IsAsked, Inside.IsMadeInParts, Limits.is_whole, Limits.limit_of, Made.IsMade, Program.IsCarriedOut, Program.IsDone};
 
 use crate::explained::{explains, refuse_text};
 use crate::explore::explore_text;
@@ -21,30 +21,16 @@ use std::thread::Threads;
 use std::time::Clock;
 use tc_answer::{Answer, Outcome, RunFault, give_answer, read_text, refuse};
 use tc_campaign::Case;
-use tc_command::{Choice, RunOptions, Task};
+use tc_command::{RunOptions, Task};
 use tc_judge::{
     cases_to_run, check_input, check_text, compare_text, is_of_judged, report_compared,
     report_input, report_text,
 };
 use tc_run::{fault_of, run_cases, with_jobs};
-use tc_script::ScriptJob;
+use tc_step::Script;
 
-// The test cases that a run is asked for, of the campaign that the text spells, with jobs that run their scripts.
-fn ready_cases<R: Wait + Copy + Send + 'static>(
-    rt: &R,
-    alloc: Global,
-    text: &[u8],
-    choice: &Choice,
-) -> Result<Vec<Case<ScriptJob<R>>>, RunFault>
-    ensures chosen { IfOk result (λ cases. AreReadyAs (AreToRun choice.now text.now) cases.items) }
-    ensures refused { IfErr result (RefusesRun choice.now text.now) }
-{
-    let cases = cases_to_run(alloc, text, choice)?;
-    Ok(with_jobs(rt, alloc, cases)?)
-}
-
-/// What is made of the text for a task that is no run.
-pub(crate) fn made_text(alloc: Global, task: &Task, text: &[u8]) -> Result<Answer, RunFault>
+// What is made of the text for a task that is no run.
+fn made_text(alloc: Global, task: &Task, text: &[u8]) -> Result<Answer, RunFault>
     requires no_run { (o : RunOptions) → task.now ≢ Run o }
     requires no_service { task.now ≢ Serve }
     ensures { IsMade task.now text.now result }
@@ -70,41 +56,37 @@ pub(crate) fn made_text(alloc: Global, task: &Task, text: &[u8]) -> Result<Answe
     }
 }
 
-// Does what the task asks for with its text.
-fn do_text<R, W: Write, E: Write>(
-    rt: &R,
+// Does what the task asks for with its text, or returns the test cases that it asks to run.
+fn do_text<'t, W: Write, E: Write>(
     alloc: Global,
-    task: &Task,
+    task: &'t Task,
     text: &[u8],
     writer: &mut W,
     errors: &mut E,
-) -> Outcome
-where
-    R: Threads + Wait + Clock + Copy + Send + 'static,
+) -> Result<(&'t RunOptions, Vec<Case<Script>>), Outcome>
     requires { task.now ≢ Serve }
-    ensures { IsDone task.now text.now (held_streams W.contents writer.old writer.new E.contents errors.old errors.new) result }
+    ensures done { IfErr result (IsDone task.now text.now (held_streams W.contents writer.old writer.new E.contents errors.old errors.new)) }
+    ensures asked { IfOk result (λ r. (task.now ≡ Run r.0.now) × AreReadyAs (AreToRun r.0.now.choice text.now) r.1.items) }
+    ensures unwritten { OnOk result (writer.new ≡ writer.old) }
+    ensures untold { OnOk result (errors.new ≡ errors.old) }
 {
     let Task::Run(options) = task else {
         let made = made_text(alloc, task, text);
-        return finish(alloc, task, text, made, writer, errors);
+        return Err(finish(alloc, task, text, made, writer, errors));
     };
-    let cases = match ready_cases(rt, alloc, text, &options.choice) {
-        Ok(cases) => cases,
-        Err(fault) => return refuse_text(alloc, errors, task, text, fault),
-    };
-    match run_cases(rt, alloc, cases, options, writer, errors) {
-        Ok(outcome) => outcome,
-        Err(fault) => refuse(alloc, errors, fault_of(fault)),
+    match cases_to_run(alloc, text, &options.choice) {
+        Ok(cases) => Ok((options, cases)),
+        Err(fault) => Err(refuse_text(alloc, errors, task, text, fault)),
     }
 }
 
-/// What is made of the input part by part, if neither an explanation nor the form needs its text.
-pub(crate) fn made_in_parts<I: Read>(
+// What is made of the input part by part, if neither an explanation nor the form needs its text.
+fn made_in_parts<I: Read>(
     alloc: Global,
     task: &Task,
     reader: &mut I,
 ) -> Option<Result<Answer, RunFault>>
-    ensures { MatchOption result ((reader.new ≡ reader.old) × (is_long task.now ≡ false)) (IsMadeInParts task.now (I.remaining reader.old)) }
+    ensures { MatchOption result ((reader.new ≡ reader.old) × (is_whole (limit_of task.now) ≡ true)) (IsMadeInParts task.now (I.remaining reader.old)) }
 {
     if explains(task) {
         return None;
@@ -127,24 +109,47 @@ pub(crate) fn made_in_parts<I: Read>(
     }
 }
 
-// Does what the task asks for with its input, which is read whole first.
-fn do_input<R, I: Read, W: Write, E: Write>(
-    rt: &R,
+// Does what the task asks for with its input, which is read whole first, or returns the test cases that it asks to run.
+fn do_input<'t, I: Read, W: Write, E: Write>(
     alloc: Global,
-    task: &Task,
+    task: &'t Task,
     reader: &mut I,
     writer: &mut W,
     errors: &mut E,
-) -> Outcome
-where
-    R: Threads + Wait + Clock + Copy + Send + 'static,
+) -> Result<(&'t RunOptions, Vec<Case<Script>>), Outcome>
     requires other { task.now ≢ Serve }
-    requires kept { is_long task.now ≡ false }
-    ensures { IsCarriedOut task.now (I.remaining reader.old) (held_streams W.contents writer.old writer.new E.contents errors.old errors.new) result }
+    requires kept { is_whole (limit_of task.now) ≡ true }
+    ensures done { IfErr result (IsCarriedOut task.now (I.remaining reader.old) (held_streams W.contents writer.old writer.new E.contents errors.old errors.new)) }
+    ensures asked { IfOk result (λ r. IsAsked task.now (I.remaining reader.old) r.0.now r.1.items) }
+    ensures unwritten { OnOk result (writer.new ≡ writer.old) }
+    ensures untold { OnOk result (errors.new ≡ errors.old) }
 {
     match read_text(alloc, reader, text_limit(task)) {
-        Ok(text) => do_text(rt, alloc, task, text.as_slice(), writer, errors),
-        Err(fault) => refuse(alloc, errors, fault),
+        Ok(text) => do_text(alloc, task, text.as_slice(), writer, errors),
+        Err(fault) => Err(refuse(alloc, errors, fault)),
+    }
+}
+
+/// Does what the task asks for with its input, or returns the test cases that it asks to run.
+pub(crate) fn begin<'t, I: Read, W: Write, E: Write>(
+    alloc: Global,
+    task: &'t Task,
+    reader: &mut I,
+    writer: &mut W,
+    errors: &mut E,
+) -> Result<(&'t RunOptions, Vec<Case<Script>>), Outcome>
+    ensures done { IfErr result (IsCarriedOut task.now (I.remaining reader.old) (held_streams W.contents writer.old writer.new E.contents errors.old errors.new)) }
+    ensures asked { IfOk result (λ r. IsAsked task.now (I.remaining reader.old) r.0.now r.1.items) }
+    ensures unwritten { OnOk result (writer.new ≡ writer.old) }
+    ensures untold { OnOk result (errors.new ≡ errors.old) }
+{
+    if let Task::Serve = task {
+        return Err(serve_input(alloc, reader, writer, errors));
+    }
+    match made_in_parts(alloc, task, reader) {
+        Some(Ok(answer)) => Err(give_answer(alloc, &answer, writer, errors)),
+        Some(Err(fault)) => Err(refuse(alloc, errors, fault)),
+        None => do_input(alloc, task, reader, writer, errors),
     }
 }
 
@@ -161,12 +166,15 @@ where
     R: Threads + Wait + Clock + Copy + Send + 'static,
     ensures { IsCarriedOut task.now (I.remaining reader.old) (held_streams W.contents writer.old writer.new E.contents errors.old errors.new) result }
 {
-    if let Task::Serve = task {
-        return serve_input(alloc, reader, writer, errors);
-    }
-    match made_in_parts(alloc, task, reader) {
-        Some(Ok(answer)) => give_answer(alloc, &answer, writer, errors),
-        Some(Err(fault)) => refuse(alloc, errors, fault),
-        None => do_input(rt, alloc, task, reader, writer, errors),
+    let (options, cases) = match begin(alloc, task, reader, writer, errors) {
+        Ok(asked) => asked,
+        Err(outcome) => return outcome,
+    };
+    let Ok(cases) = with_jobs(rt, alloc, cases) else {
+        return refuse(alloc, errors, RunFault::NoMemory);
+    };
+    match run_cases(rt, alloc, cases, options, writer, errors) {
+        Ok(outcome) => outcome,
+        Err(fault) => refuse(alloc, errors, fault_of(fault)),
     }
 }

@@ -6,7 +6,7 @@ ghost use Rattle.tc_text.specs.Prelude.{TellsAmong};
 ghost use Rattle.tc_answer.specs.Prelude.{number_of};
 ghost use Rattle.tc_program.specs.{Explained.IsExplained, Explained.explains as spec_explains, Explained.is_of_text as spec_of_text, Explained.part_of as spec_part_of, Inside.IsToldOf, Inside.notes_of, Limits.has_blocks as spec_blocks, Explained.asks_why as spec_why};
 
-use crate::limits::{has_blocks, is_long};
+use crate::limits::{has_blocks, is_kept};
 use crate::unknown::{append_unknown, names_of_blocks, names_of_script};
 use std::alloc::Global;
 use std::io::Write;
@@ -37,7 +37,7 @@ fn asks_why(task: &Task) -> bool
 pub(crate) fn explains(task: &Task) -> bool
     ensures { result ≡ spec_explains task.now }
 {
-    asks_why(task) && !is_long(task)
+    asks_why(task) && is_kept(task)
 }
 
 // What the text of the task should be, which has a fault of this kind; a script has faults of another.

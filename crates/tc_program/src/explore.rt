@@ -6,7 +6,7 @@ ghost use Rattle.tc_course.specs.Prelude.{AreLegal};
 ghost use Rattle.tc_explored.specs.Prelude.{details as of_details};
 ghost use Rattle.tc_judge.specs.Inside.{HasFewJobs};
 ghost use Rattle.tc_judge.specs.Prelude.{RefusesRun};
-ghost use Rattle.tc_program.specs.{Explore.Explores, Explore.TellsAfter, Explore.TellsLocals, Explore.explored_text, Explore.witness_blocks, Explore.has_status as status_in, Explore.status_of_all, Inside.IsExploredOf, Inside.TellsLocalsIf};
+ghost use Rattle.tc_program.specs.{Explore.Explores, Explore.TellsAfter, Explore.explored_text, Explore.witness_blocks, Explore.has_status as status_in, Explore.status_of_all, Inside.IsExploredOf, Inside.TellsLocalsIf};
 
 use std::alloc::Global;
 use tc_answer::{Answer, RunFault};
@@ -15,10 +15,7 @@ use tc_campaign::Case;
 use tc_command::ExploreOptions;
 use tc_entry::{Name, Sequence};
 use tc_explore::{Explored, explore, explore_locals};
-use tc_explored::{
-    append_details, append_line, append_locals as append_locals_lines, append_witnesses,
-    explored_status,
-};
+use tc_explored::{append_details, append_line, append_locals, append_witnesses, explored_status};
 use tc_judge::cases_to_run;
 use tc_report::first_names;
 use tc_step::Script;
@@ -35,22 +32,7 @@ pub(crate) struct ExploredCase {
     pub(crate) details: Sequence<u8>,
 }
 
-// Appends the local verdicts of a test case with these scripts, of which it looks at that many states.
-fn append_locals(
-    alloc: Global,
-    out: &mut Vec<u8>,
-    scripts: &[Script],
-    states: usize,
-) -> Result<(), NoMemory>
-    requires few { length scripts.now ≤ BEHAVIOURS }
-    ensures { OnOk result (TellsLocals states scripts.now out.old.items out.new.items) }
-{
-    let locals = explore_locals(alloc, scripts, states)?;
-    append_locals_lines(alloc, out, &locals)?;
-    Ok(())
-}
-
-// Appends them, if they are asked for.
+// Appends the local verdicts of a test case with these scripts, of which it looks at that many states, if they are asked for.
 #[tactic(auto, using(crate::proofs::Exploring::asked_rules))]
 fn append_locals_if(
     alloc: Global,
@@ -65,7 +47,8 @@ fn append_locals_if(
     if !locals {
         return Ok(());
     }
-    append_locals(alloc, out, scripts, states)?;
+    let locals = explore_locals(alloc, scripts, states)?;
+    append_locals(alloc, out, &locals)?;
     Ok(())
 }
 

@@ -2,7 +2,6 @@
 //! this library's `answer`.
 #![tactic(auto)]
 
-mod alone;
 mod answering;
 mod carrying_out;
 mod checking;
@@ -19,8 +18,7 @@ mod serve;
 mod terminal;
 mod unknown;
 
-pub use alone::answer_alone;
-pub use answering::{Arguments, answer};
+pub use answering::{Arguments, answer, answer_alone};
 pub use carrying_out::carry_out;
 pub use checking::check;
 pub use own_cases::answer_cases;

@@ -1,6 +1,7 @@
 //! How many bytes the input of a task may have.
-ghost use Rattle.std.specs.Prelude.{◌≡◌};
-ghost use Rattle.tc_program.specs.Limits.{has_blocks as spec_blocks, is_long as spec_long, text_limit as spec_limit};
+ghost use Rattle.std.specs.Prelude.{◌≡◌, true};
+ghost use Rattle.tc_blocks.specs.declared.limit.Limit.{Limit};
+ghost use Rattle.tc_program.specs.Limits.{has_blocks as spec_blocks, is_whole, limit_of};
 
 use tc_answer::{HISTORY_LIMIT, SCRIPT_LIMIT};
 use tc_command::Task;
@@ -15,25 +16,24 @@ pub(crate) fn has_blocks(task: &Task) -> bool
         Task::List { choice, .. } => choice.failed,
         Task::Run(options) => options.choice.failed,
         Task::Explore(options) => options.choice.failed,
-        Task::Check { .. } | Task::Report { .. } | Task::Model { .. } => false,
-        Task::Replay { .. } | Task::Serve => false,
+        _ => false,
     }
 }
 
-/// Whether the histories of the task may be long: its text is not kept.
-pub(crate) fn is_long(task: &Task) -> bool
-    ensures { result ≡ spec_long task.now }
+/// Whether the text of the task is kept whole: its histories may not be long.
+pub(crate) fn is_kept(task: &Task) -> bool
+    ensures { result ≡ is_whole (limit_of task.now) }
 {
     match task {
-        Task::Check { choice, .. } | Task::Model { choice, .. } => choice.long,
-        Task::Report { form, choice, .. } => choice.long && is_of_judged(form),
-        _ => false,
+        Task::Check { choice, .. } | Task::Model { choice, .. } => !choice.long,
+        Task::Report { form, choice, .. } => !(choice.long && is_of_judged(form)),
+        _ => true,
     }
 }
 
 /// How many bytes a text of the task may have that is kept.
 pub(crate) fn text_limit(task: &Task) -> usize
-    ensures { result ≡ spec_limit task.now }
+    ensures { is_whole (limit_of task.now) ≡ true → limit_of task.now ≡ Limit.Whole result }
 {
     match task {
         Task::Check { .. } | Task::Report { .. } | Task::Model { .. } => HISTORY_LIMIT,

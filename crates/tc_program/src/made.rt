@@ -1,7 +1,7 @@
 //! What is made of a text, and how it is given.
 ghost use Rattle.std.specs.Prelude.{List, ℕ};
 ghost use Rattle.tc_answer.specs.Prelude.{held_streams};
-ghost use Rattle.tc_program.specs.{Inside.Finishes, Inside.WritesTo, Made.IsMade};
+ghost use Rattle.tc_program.specs.{Inside.WritesTo, Made.IsMade, Program.IsDone};
 
 use crate::explained::refuse_text;
 use std::alloc::Global;
@@ -31,7 +31,7 @@ pub(crate) fn finish<W: Write, E: Write>(
     writer: &mut W,
     errors: &mut E,
 ) -> Outcome
-    ensures { Finishes task.now text.now made (held_streams W.contents writer.old writer.new E.contents errors.old errors.new) result }
+    ensures { IsMade task.now text.now made → IsDone task.now text.now (held_streams W.contents writer.old writer.new E.contents errors.old errors.new) result }
 {
     match made {
         Ok(answer) => give_answer(alloc, &answer, writer, errors),

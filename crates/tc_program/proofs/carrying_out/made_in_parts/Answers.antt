@@ -1,13 +1,11 @@
-use Rattle.std.proofs.Common.{◌≡◌, ◌∙◌, ◌&&◌, refl, subst, sym, true, if◌then◌else◌}
-use Rattle.tc_answer.specs.declared.limits.TheConstants.{HISTORY_LIMIT}
-use Rattle.tc_blocks.specs.declared.limit.Limit.{Limit}
+use Rattle.std.proofs.Common.{◌≡◌, ◌∙◌, ◌&&◌, refl, subst, sym, true}
 use Rattle.tc_command.specs.declared.task.Task.{Task}
-use Rattle.tc_judge.specs.Prelude.{IsMadeOfInput, is_of_judged}
-use Rattle.tc_program.{specs.{Explained.asks_why, Limits.is_long, Made.IsMade}, proofs.Doing.{and_true, not_long}}
+use Rattle.tc_judge.specs.Prelude.{IsMadeOfInput, history_limit, is_of_judged}
+use Rattle.tc_program.{specs.{Explained.asks_why, Limits.{is_whole, limit_of}, Made.IsMade}, proofs.Doing.{and_right, and_true}}
 use Rattle.tc_program.proofs.carrying_out.made_in_parts.Goals as goal
 
 pub returns-then-explains : goal.returns-then-explains
-returns-then-explains g c = (refl, not_long (asks_why c.args.task.now) (is_long c.args.task.now) (sym c.explains.ensures ∙ c.if-explains.true))
+returns-then-explains g c = (refl, and_right (asks_why c.args.task.now) (is_whole (limit_of c.args.task.now)) (sym c.explains.ensures ∙ c.if-explains.true))
 
 pub returns-in-Check : goal.returns-in-Check
 returns-in-Check g c = rw c.in-Check.is (c.check_input.ensures, rw c.in-Check.is at (sym c.explains.ensures ∙ c.if-explains.false), λ e. cc)
@@ -21,7 +19,7 @@ returns-else-not-is_of_judged g c =
     let choice = c.in-Report.choice in
     let long_is : (choice.long && is_of_judged form) ≡ choice.long = and_true choice.long (is_of_judged form) (sym c.is_of_judged.ensures ∙ c.if-not-is_of_judged.false) in
     rw c.in-Report.is (
-      subst (λ l. IsMadeOfInput (if l then Limit.Blocks HISTORY_LIMIT else Limit.Whole HISTORY_LIMIT) (g.I.Read.remaining c.args.reader.now) (IsMade (Task.Report form choice true)) c.report_input.result) (sym long_is) c.report_input.ensures,
+      subst (λ l. IsMadeOfInput (history_limit l) (g.I.Read.remaining c.args.reader.now) (IsMade (Task.Report form choice true)) c.report_input.result) (sym long_is) c.report_input.ensures,
       rw c.in-Report.is at (sym c.explains.ensures ∙ c.if-explains.false),
       λ e. cc,
     )

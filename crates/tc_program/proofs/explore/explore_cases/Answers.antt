@@ -1,7 +1,7 @@
-use Rattle.std.proofs.{Common.{rules, ◌∙◌, ap, All, arith, length, subst, sym}, lemmas.List.Elements.{All-head, All-tail}}
+use Rattle.std.proofs.{Common.{rules, ◌∙◌, ap, All, arith, length, subst, sym}, lemmas.List.{Elements.{All-head, All-tail}, nil_from_length}}
 use Rattle.tc_exec.proofs.Lemmas.Taking.{done_more}
 use Rattle.tc_judge.specs.Inside.{HasFewJobs}
-use Rattle.tc_program.proofs.Exploring.{done_all, done_start, none_left}
+use Rattle.tc_program.proofs.Exploring.{done_all, done_start}
 use Rattle.tc_program.proofs.explore.explore_cases.Goals as goal
 
 pub loop-case-init : goal.loop-case-init
@@ -22,4 +22,4 @@ pub explore_case-requires : goal.explore_case-requires
 explore_case-requires c = All-head HasFewJobs _ _ (subst (All HasFewJobs) c.in-Some.ensures.steps.0 c.loop-case.invariant.4)
 
 pub returns : goal.returns
-returns c = done_all _ _ _ _ c.loop-case.invariant.3 (none_left _ (sym c.loop-case.invariant.2 ∙ c.in-None.ensures.steps.0))
+returns c = done_all _ _ _ _ c.loop-case.invariant.3 (nil_from_length _ (sym c.loop-case.invariant.2 ∙ c.in-None.ensures.steps.0))

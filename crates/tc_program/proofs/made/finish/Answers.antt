@@ -1,10 +1,10 @@
 use Rattle.std.proofs.Common.{subst}
 use Rattle.tc_answer.proofs.Lemmas.Giving.{keeps_same}
-use Rattle.tc_program.{specs.{Made.IsMade, Program.IsDoneBy}, proofs.Doing.done_by}
+use Rattle.tc_program.specs.{Made.IsMade, Program.IsDoneBy}
 use Rattle.tc_program.proofs.made.finish.Goals as goal
 
 pub returns-in-Ok : goal.returns-in-Ok
-returns-in-Ok g c made = done_by c.args.task.now _ _ _ c.in-Ok.answer _ _ (subst (IsMade c.args.task.now c.args.text.now) c.in-Ok.is made) c.give_answer.ensures
+returns-in-Ok g c made = IsDoneBy.made c.in-Ok.answer (subst (IsMade c.args.task.now c.args.text.now) c.in-Ok.is made) c.give_answer.ensures
 
 pub returns-in-Err : goal.returns-in-Err
 returns-in-Err g c made =

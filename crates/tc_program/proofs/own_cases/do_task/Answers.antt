@@ -1,8 +1,8 @@
-use Rattle.std.proofs.Common.{subst}
+use Rattle.std.proofs.Common.{Ok, Err, subst, sym}
 use Rattle.tc_answer.specs.Prelude.{run_fault_line, IsPrintedRefusal, held_streams}
 use Rattle.tc_answer.proofs.Lemmas.Giving.{keeps_same}
-use Rattle.tc_program.specs.Program.{IsDoneBy}
-use Rattle.tc_program.proofs.{Doing.done_by, OwnCases.list_made, OwnCases.list_refused, OwnCases.named_still, OwnCases.no_other, OwnCases.ran, OwnCases.ran_unwritten, OwnCases.run_refused}
+use Rattle.tc_program.specs.{Cases.{IsMadeOfCases, WereMade}, Program.IsDoneBy}
+use Rattle.tc_program.proofs.OwnCases.{named_still, no_other, ran, ran_unwritten}
 use Rattle.tc_program.proofs.own_cases.do_task.Goals as goal
 
 pub unreachable-requires : goal.unreachable-requires
@@ -10,17 +10,16 @@ unreachable-requires g c = no_other c.args.task.now c.requires.of_cases c.in_def
 
 pub returns-in-Ok : goal.returns-in-Ok
 returns-in-Ok g c =
-    done_by c.args.task.now _ _ _ c.in-Ok.answer _ _
-    (list_made c.args.cases c.args.task.now c.in-List.choice c.in-List.explains c.in-Ok.answer c.in-List.is c.in-Ok.ensures.done) c.give_answer.ensures
+    IsDoneBy.made c.in-Ok.answer (subst (λ task. IsMadeOfCases (WereMade c.args.cases) task (Ok c.in-Ok.answer)) (sym c.in-List.is) c.in-Ok.ensures.done) c.give_answer.ensures
 
 pub returns-in-Err : goal.returns-in-Err
 returns-in-Err g c =
-    IsDoneBy.refused c.in-Err.fault (list_refused c.args.cases c.args.task.now c.in-List.choice c.in-List.explains c.in-Err.fault c.in-List.is c.in-Err.ensures.refused)
+    IsDoneBy.refused c.in-Err.fault (subst (λ task. IsMadeOfCases (WereMade c.args.cases) task (Err c.in-Err.fault)) (sym c.in-List.is) c.in-Err.ensures.refused)
     (keeps_same (g.W.Write.contents c.args.writer.now)) c.refuse.ensures
 
 pub returns-in-Err-asked : goal.returns-in-Err-asked
 returns-in-Err-asked g c =
-    IsDoneBy.refused c.in-Err-asked.fault (run_refused c.args.cases c.args.task.now c.in-Run.options c.in-Err-asked.fault c.in-Run.is c.in-Err-asked.ensures.refused)
+    IsDoneBy.refused c.in-Err-asked.fault (subst (λ task. IsMadeOfCases (WereMade c.args.cases) task (Err c.in-Err-asked.fault)) (sym c.in-Run.is) c.in-Err-asked.ensures.refused)
     (keeps_same (g.W.Write.contents c.args.writer.now)) c.refuse-in-Err-asked.ensures
 
 pub run_cases-requires-clause-names : goal.run_cases-requires-clause-names

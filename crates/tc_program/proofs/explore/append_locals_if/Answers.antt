@@ -1,7 +1,8 @@
-use Rattle.tc_program.proofs.explore.append_locals.Goals as goal
+use Rattle.tc_program.proofs.Exploring.{asked}
+use Rattle.tc_program.proofs.explore.append_locals_if.Goals as goal
 
 pub returns : goal.returns
-returns c = record {
+returns c = asked c.args.locals c.args.states c.args.scripts.now _ _ c.if-not-locals.false (record {
   locals = c.in_ok-locals.locals;
   sound = c.in_ok-locals.ensures.sound;
   complete = c.in_ok-locals.ensures.complete;
@@ -9,4 +10,4 @@ returns c = record {
   most = c.in_ok-locals.ensures.most;
   undecided = c.in_ok-locals.ensures.undecided;
   told = c.in_ok-append_locals.ensures;
-}
+})
