@@ -118,7 +118,7 @@ unexplained : (b : Bool) (P Q : Type 0) → Q → MatchBool (b && false) P Q
 unexplained true P Q q = q
 unexplained false P Q q = q
 
-refuses_run : (failed : Bool) (choice : Choice) (text : List ℕ) 
+refuses_run : (failed : Bool) (choice : Choice) (text : List ℕ)
     → (let R : List ℕ → RunFault → Type 0 = elim failed [ true ↦ RefusesAgainst choice | false ↦ RefusesChoice choice ] in R text RunFault.NoMemory)
 refuses_run true choice text = tt
 refuses_run false choice text = tt

@@ -46,10 +46,13 @@ fn answer_no_task<W: Write, E: Write>(
     writer: &mut W,
     errors: &mut E,
 ) -> Outcome
-    ensures help { kind_of error.now ≡ DisplayHelp → IsHelped (held_streams W.contents writer.old writer.new E.contents errors.old errors.new) result }
-    ensures version { kind_of error.now ≡ DisplayVersion → IsHelped (held_streams W.contents writer.old writer.new E.contents errors.old errors.new) result }
+    ensures help { kind_of error.now ≡ DisplayHelp
+        → IsHelped (held_streams W.contents writer.old writer.new E.contents errors.old errors.new) result }
+    ensures version { kind_of error.now ≡ DisplayVersion
+        → IsHelped (held_streams W.contents writer.old writer.new E.contents errors.old errors.new) result }
     ensures refused { IsMistake (kind_of error.now) → (text : List ℕ) × IsPrintedRefusal (E.contents errors.old) (E.contents errors.new) text result }
-    ensures memory { kind_of error.now ≡ OutOfMemory → IsPrintedRefusal (E.contents errors.old) (E.contents errors.new) (run_fault_line WithoutMemory) result }
+    ensures memory { kind_of error.now ≡ OutOfMemory
+        → IsPrintedRefusal (E.contents errors.old) (E.contents errors.new) (run_fault_line WithoutMemory) result }
     ensures unwritten { IsMistake (kind_of error.now) → writer.new ≡ writer.old }
     ensures wordless { kind_of error.now ≡ OutOfMemory → writer.new ≡ writer.old }
 {

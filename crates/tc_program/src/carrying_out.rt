@@ -119,7 +119,8 @@ fn do_input<'t, I: Read, W: Write, E: Write>(
 ) -> Result<(&'t RunOptions, Vec<Case<Script>>), Outcome>
     requires other { task.now ≢ Serve }
     requires kept { is_whole (limit_of task.now) ≡ true }
-    ensures done { IfErr result (IsCarriedOut task.now (I.remaining reader.old) (held_streams W.contents writer.old writer.new E.contents errors.old errors.new)) }
+    ensures done { IfErr result (IsCarriedOut task.now (I.remaining reader.old)
+        (held_streams W.contents writer.old writer.new E.contents errors.old errors.new)) }
     ensures asked { IfOk result (λ r. IsAsked task.now (I.remaining reader.old) r.0.now r.1.items) }
     ensures unwritten { OnOk result (writer.new ≡ writer.old) }
     ensures untold { OnOk result (errors.new ≡ errors.old) }
@@ -138,7 +139,8 @@ pub(crate) fn begin<'t, I: Read, W: Write, E: Write>(
     writer: &mut W,
     errors: &mut E,
 ) -> Result<(&'t RunOptions, Vec<Case<Script>>), Outcome>
-    ensures done { IfErr result (IsCarriedOut task.now (I.remaining reader.old) (held_streams W.contents writer.old writer.new E.contents errors.old errors.new)) }
+    ensures done { IfErr result (IsCarriedOut task.now (I.remaining reader.old)
+        (held_streams W.contents writer.old writer.new E.contents errors.old errors.new)) }
     ensures asked { IfOk result (λ r. IsAsked task.now (I.remaining reader.old) r.0.now r.1.items) }
     ensures unwritten { OnOk result (writer.new ≡ writer.old) }
     ensures untold { OnOk result (errors.new ≡ errors.old) }

@@ -31,7 +31,8 @@ pub(crate) fn finish<W: Write, E: Write>(
     writer: &mut W,
     errors: &mut E,
 ) -> Outcome
-    ensures { IsMade task.now text.now made → IsDone task.now text.now (held_streams W.contents writer.old writer.new E.contents errors.old errors.new) result }
+    ensures { IsMade task.now text.now made
+        → IsDone task.now text.now (held_streams W.contents writer.old writer.new E.contents errors.old errors.new) result }
 {
     match made {
         Ok(answer) => give_answer(alloc, &answer, writer, errors),

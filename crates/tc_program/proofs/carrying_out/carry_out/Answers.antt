@@ -27,10 +27,10 @@ returns-in-Ok-run_cases g c =
     let s = held_streams g.W.Write.contents c.args.writer.now c.run_cases.new.writer g.E.Write.contents c.args.errors.now c.run_cases.new.errors in
     asked_done c.args.task.now _ o c.in-Ok.asked.1.items s c.in-Ok-run_cases.outcome c.in-Ok.ensures.asked
     (λ text ready.
-        let are = still_ready (AreToRun o.choice text) c.in-Ok.asked.1.items cases ready c.in-Ok-with_jobs.ensures in
-        IsDoneBy.run o c.in-Ok.ensures.asked.0
-        (run_done o (AreToRun o.choice text) are.cases cases are.chosen are.lawful are.each s c.in-Ok-run_cases.outcome
-        (rw (c.in-Ok.ensures.unwritten, c.in-Ok.ensures.untold) at c.in-Ok-run_cases.ensures.done)))
+    let are = still_ready (AreToRun o.choice text) c.in-Ok.asked.1.items cases ready c.in-Ok-with_jobs.ensures in
+    IsDoneBy.run o c.in-Ok.ensures.asked.0
+    (run_done o (AreToRun o.choice text) are.cases cases are.chosen are.lawful are.each s c.in-Ok-run_cases.outcome
+    (rw (c.in-Ok.ensures.unwritten, c.in-Ok.ensures.untold) at c.in-Ok-run_cases.ensures.done)))
 
 pub returns-in-Err-run_cases : goal.returns-in-Err-run_cases
 returns-in-Err-run_cases g c =
@@ -41,7 +41,7 @@ returns-in-Err-run_cases g c =
     let refusal = subst (λ f. IsPrintedRefusal s.told told (run_fault_line f) c.refuse-in-Err-run_cases.result) c.fault_of.ensures c.refuse-in-Err-run_cases.ensures in
     asked_done c.args.task.now _ o c.in-Ok.asked.1.items (record s { told = told }) c.refuse-in-Err-run_cases.result c.in-Ok.ensures.asked
     (λ text ready.
-        let are = still_ready (AreToRun o.choice text) c.in-Ok.asked.1.items cases ready c.in-Ok-with_jobs.ensures in
-        IsDoneBy.run o c.in-Ok.ensures.asked.0
-        (run_left o (AreToRun o.choice text) are.cases cases are.chosen are.lawful are.each s c.in-Err-run_cases.fault told c.refuse-in-Err-run_cases.result
-        (rw (c.in-Ok.ensures.unwritten, c.in-Ok.ensures.untold) at c.in-Err-run_cases.ensures.refused) refusal))
+    let are = still_ready (AreToRun o.choice text) c.in-Ok.asked.1.items cases ready c.in-Ok-with_jobs.ensures in
+    IsDoneBy.run o c.in-Ok.ensures.asked.0
+    (run_left o (AreToRun o.choice text) are.cases cases are.chosen are.lawful are.each s c.in-Err-run_cases.fault told c.refuse-in-Err-run_cases.result
+    (rw (c.in-Ok.ensures.unwritten, c.in-Ok.ensures.untold) at c.in-Err-run_cases.ensures.refused) refusal))
