@@ -10,7 +10,6 @@ use crate::explained::{explains, refuse_text};
 use crate::explore::explore_text;
 use crate::limits::text_limit;
 use crate::listing::list_text;
-use crate::made::finish;
 use crate::model::{model_input, model_text};
 use crate::replaying::replay_text;
 use crate::serve::serve_input;
@@ -71,8 +70,10 @@ fn do_text<'t, W: Write, E: Write>(
     ensures untold { OnOk result (errors.new ≡ errors.old) }
 {
     let Task::Run(options) = task else {
-        let made = made_text(alloc, task, text);
-        return Err(finish(alloc, task, text, made, writer, errors));
+        return match made_text(alloc, task, text) {
+            Ok(answer) => Err(give_answer(alloc, &answer, writer, errors)),
+            Err(fault) => Err(refuse_text(alloc, errors, task, text, fault)),
+        };
     };
     match cases_to_run(alloc, text, &options.choice) {
         Ok(cases) => Ok((options, cases)),

@@ -1,12 +1,9 @@
-//! What is made of a text, and how it is given.
+//! What is made of a text, as it is written.
 ghost use Rattle.std.specs.Prelude.{List, ℕ};
-ghost use Rattle.tc_answer.specs.Prelude.{held_streams};
-ghost use Rattle.tc_program.specs.{Inside.WritesTo, Made.IsMade, Program.IsDone};
+ghost use Rattle.tc_program.specs.{Inside.WritesTo, Made.IsMade};
 
-use crate::explained::refuse_text;
-use std::alloc::Global;
 use std::io::Write;
-use tc_answer::{Answer, Outcome, RunFault, give_answer};
+use tc_answer::{Answer, RunFault};
 use tc_command::Task;
 use tc_stream::write_whole;
 
@@ -20,22 +17,4 @@ pub(crate) fn write_answer<W: Write>(
     let answer = made?;
     write_whole(writer, answer.out.as_slice())?;
     Ok(answer.status)
-}
-
-/// The outcome of a task of whose text this was made: it is written and printed, or why there is none is printed.
-pub(crate) fn finish<W: Write, E: Write>(
-    alloc: Global,
-    task: &Task,
-    text: &[u8],
-    made: Result<Answer, RunFault>,
-    writer: &mut W,
-    errors: &mut E,
-) -> Outcome
-    ensures { IsMade task.now text.now made
-        → IsDone task.now text.now (held_streams W.contents writer.old writer.new E.contents errors.old errors.new) result }
-{
-    match made {
-        Ok(answer) => give_answer(alloc, &answer, writer, errors),
-        Err(fault) => refuse_text(alloc, errors, task, text, fault),
-    }
 }
