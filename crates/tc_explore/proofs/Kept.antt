@@ -1,9 +1,10 @@
 -- The states that a search keeps, and how many calls it counts.
-use Rattle.std.{proofs.{Common.{ℕ, ◌≡◌, ◌==◌, ◌<◌, List, [], length, get_or, replicate, set, refl, ap, sym, ◌∙◌, arith, ◌+◌, ◌≤◌, inl, inr, max, nat_eq, All, ◌∷◌, ◌++◌, map, reverse, rules, nat_cmp, subst, append-nil, ⊎_elim, false}, lemmas.{List.{Elements.{All-map, All-nil, All-push, All-same, All-weaker}, get_or-map, get_or-replicate, get_or-set_other, get_or-set_same, length-map, length-replicate, length-set}, Bool.{cases_eq, cases_lt}, Option.slice_get-get_or}}, specs.{Cmp.Lexicographic.pointwise, List.IsDistinct, Ordering.ord_max}}
+use Rattle.std.{proofs.{Common.{ℕ, ◌≡◌, ◌==◌, ◌<◌, List, [], length, get_or, replicate, set, refl, ap, sym, ◌∙◌, arith, ◌+◌, ◌≤◌, inl, inr, max, nat_eq, All, ◌∷◌, ◌++◌, map, reverse, rules, nat_cmp, subst, append-nil, ⊎_elim, Bool, true, false, length-append, Result, Ok, Err, OnOk}, lemmas.{List.{Elements.{All-map, All-nil, All-push, All-same, All-weaker}, get_or-map, get_or-replicate, get_or-set_other, get_or-set_same, length-map, length-replicate, length-set}, Bool.{cases_eq, cases_lt}, Option.slice_get-get_or}}, specs.{Cmp.Lexicographic.pointwise, List.IsDistinct, Ordering.ord_max}}
+use Rattle.tc_entry.specs.declared.limits.TheConstants.{BEHAVIOURS}
 use Rattle.tc_step.specs.Prelude.{ScriptView}
 use Rattle.tc_rules.specs.Prelude.{Case, past_of, Entry, Verdict}
 use Rattle.tc_course.specs.{Prelude.{carried_on, IsOn, IsCourse}, declared.witness.Witness.Witness}
-use Rattle.tc_explore.{specs.{Found.{AreAllMet, AreCourses, AreCovered, AreReached, Covers}, Inside.{Seen.{AreKept, IsCountedTo, IsLonger, IsNoLess, IsSameCase, IsState, IsWith, Reaches}, Twins.{AreKeyed, key_of}}, declared.{findings.Findings.Findings, search.Met.Met}}, proofs.{Keeping.state_same, Keys.{AreApart, keys_apart}}}
+use Rattle.tc_explore.{specs.{Found.{AreAllMet, AreCourses, AreCovered, AreReached, Covers}, Inside.{Seen.{AreMet, IsCountedTo, IsFull, IsFurther, IsLonger, IsMetFurther, IsNoLess, IsNoted, IsPlaced, IsSameCase, IsSearch, IsSeen, IsState, IsWith, Reaches}, Twins.{AreKeyed, key_of}}, declared.{findings.Findings.Findings, search.{Met.Met, Search.Search}}}, proofs.{Keeping.state_same, Keys.{AreApart, keys_apart, seen_by_key}, Seeing.{longer_self, longer_then, met_self, met_then}}}
 
 -- nothing was called at the opening
 pub reached_none : (scripts : List ScriptView) → AreReached scripts (replicate (length scripts) 0)
@@ -84,6 +85,10 @@ pub ruleset counting_rules = (counted_none, counted_more, counted_all)
 
 -- ---- states
 
+pub on_ok : {A E P Q : Type 0} (r : Result A E) → (P → Q) → OnOk r P → OnOk r Q
+on_ok (Ok x) f h = f h
+on_ok (Err e) f h = tt
+
 pub with_one : (before after : List Case) (t u : Case) → u.behaviours ≡ t.behaviours → u.history ≡ t.history → after ≡ before ++ u ∷ [] → IsWith before t after
 with_one before after t u behaviours entries is = inr (u, record { behaviours = behaviours; entries = entries }, is)
 
@@ -91,50 +96,112 @@ pub longer_with : (before after : List Case) (t : Case) → IsWith before t afte
 longer_with before after t (inl same) = ([], same ∙ sym (append-nil before))
 longer_with before after t (inr more) = (more.0 ∷ [], more.2)
 
-pub keyed_none : (of : List Entry → List ℕ) (met : Met) → met.states.items ≡ [] → met.keys.keys ≡ [] → AreKeyed of met
-keyed_none of met none no_key = rw (none, no_key) refl
-
 -- there is a key for each state
 pub as_many_keys : (of : List Entry → List ℕ) (met : Met) → AreKeyed of met → length met.keys.keys ≡ length met.states.items
 as_many_keys of met keyed = sym (length-map met.keys.keys (λ k. k.items)) ∙ (ap length keyed ∙ length-map met.states.items (λ t. of (past_of t)))
-
-pub kept_none : {aim : Verdict} (scripts : List ScriptView) (met : Met) (found : Findings) → met.states.items ≡ [] → AreKeyed (key_of false (length scripts)) met → AreKept aim scripts met found
-kept_none {aim} scripts met found none keyed = record {
-  few = let size : length met.states.items ≡ 0 = ap length none in omega (arith, size);
-  each = All-same (λ t. IsState aim scripts t) met.states.items [] none (All-nil (λ t. IsState aim scripts t));
-  keyed = keyed;
-  counted = All-same (λ t. Covers found.reached.items (past_of t)) met.states.items [] none (All-nil (λ t. Covers found.reached.items (past_of t)));
-}
-
--- more is counted
-pub kept_more : {aim : Verdict} (scripts : List ScriptView) (met : Met) (f g : Findings) → IsNoLess f.reached.items g.reached.items → AreKept aim scripts met f → AreKept aim scripts met g
-kept_more {aim} scripts met f g more kept = record {
-  few = kept.few;
-  each = kept.each;
-  keyed = kept.keyed;
-  counted = All-weaker (λ t. Covers f.reached.items (past_of t)) (λ t. Covers g.reached.items (past_of t)) (λ t. covers_more f.reached.items g.reached.items (past_of t) more) met.states.items kept.counted;
-}
 
 pub all_with : (P : Case → Type 0) (before after : List Case) (t : Case) → ((u : Case) → IsSameCase t u → P t → P u) → IsWith before t after → All P before → P t → All P after
 all_with P before after t keeps (inl same) all one = All-same P after before same all
 all_with P before after t keeps (inr more) all one = All-same P after (before ++ more.0 ∷ []) more.2 (All-push P before more.0 all (keeps more.0 more.1 one))
 
+-- none is met yet
+pub are_none : (all : Bool) (Fits : Case → Type 0) (met : Met) → 1 ≤ length met.scripts.now → length met.scripts.now ≤ BEHAVIOURS → met.states.items ≡ [] → met.keys.keys ≡ [] → met.is_whole ≡ true → AreMet all Fits met
+are_none all Fits met some few none no_key whole = record {
+  some = some;
+  few = few;
+  within = let size : length met.states.items ≡ 0 = ap length none in omega (arith, size);
+  each = All-same Fits met.states.items [] none (All-nil Fits);
+  keyed = rw (none, no_key) refl;
+  full = λ part. absurd cc;
+}
+
+pub placed_further : (all : Bool) (t : Case) (before after : Met) → IsPlaced all t before after → IsMetFurther before after
+placed_further all t before after p = record { scripts = p.scripts; limit = p.limit; states = longer_with before.states.items after.states.items t p.states; whole = p.whole }
+
+-- one state more
+pub placed_met : (all : Bool) (Fits : List ScriptView → Case → Type 0) (t : Case) (before after : Met) → ((u : Case) → IsSameCase t u → Fits before.scripts.now t → Fits before.scripts.now u) →
+    AreMet all (Fits before.scripts.now) before → Fits before.scripts.now t → IsPlaced all t before after → AreMet all (Fits after.scripts.now) after
+placed_met all Fits t before after keeps are fits p = subst (λ sc. AreMet all (Fits sc) after) (sym p.scripts) (record {
+  some = subst (λ sc. 1 ≤ length sc) (sym p.scripts) are.some;
+  few = subst (λ sc. length sc ≤ BEHAVIOURS) (sym p.scripts) are.few;
+  within = let most = p.within are.within in omega (arith, most, p.limit);
+  each = all_with (Fits before.scripts.now) before.states.items after.states.items t keeps p.states are.each fits;
+  keyed = subst (λ sc. AreKeyed (key_of all (length sc)) after) (sym p.scripts) (p.keyed are.keyed);
+  full = λ part. ⊎_elim (λ was. stays (are.full was)) stays (p.full part);
+})
+  where
+    stays : IsFull before → IsFull after
+    stays full =
+        let more = longer_with before.states.items after.states.items t p.states in
+        let size : length after.states.items ≡ length before.states.items + length more.0 = ap length more.1 ∙ length-append before.states.items more.0 in
+        omega (arith, size, p.limit, full)
+
+-- no more than the limit
+pub met_within : (all : Bool) (Fits : Case → Type 0) (met : Met) → AreMet all Fits met → length met.keys.keys ≤ met.limit
+met_within all Fits met are = omega (arith, as_many_keys (key_of all (length met.scripts.now)) met are.keyed, are.within)
+
+-- as many, if one was left out
+pub met_full : (all : Bool) (Fits : Case → Type 0) (met : Met) → AreMet all Fits met → met.is_whole ≡ false → length met.keys.keys ≡ met.limit
+met_full all Fits met are part = let full = are.full part in omega (arith, as_many_keys (key_of all (length met.scripts.now)) met are.keyed, are.within, full)
+
+-- ---- a search for verdicts
+
+pub search_none : (s : Search) → 1 ≤ length s.met.scripts.now → length s.met.scripts.now ≤ BEHAVIOURS → s.met.states.items ≡ [] → s.met.keys.keys ≡ [] → s.met.is_whole ≡ true → IsNoted s.met.scripts.now s.found → IsSearch s
+search_none s some few none no_key whole noted = record {
+  met = are_none false (IsState s.aim s.met.scripts.now) s.met some few none no_key whole;
+  found = noted;
+  counted = All-same (λ t. Covers s.found.reached.items (past_of t)) s.met.states.items [] none (All-nil (λ t. Covers s.found.reached.items (past_of t)));
+}
+
+pub further_self : (s : Search) → IsSearch s → IsFurther s s
+further_self s is = record { search = is; aim = refl; met = met_self s.met; witnesses = longer_self s.found.witnesses.items; reached = no_less_self s.found.reached.items }
+
+pub further_then : (a b c : Search) → IsFurther a b → IsFurther b c → IsFurther a c
+further_then a b c h k = record {
+  search = k.search;
+  aim = k.aim ∙ h.aim;
+  met = met_then a.met b.met c.met h.met k.met;
+  witnesses = longer_then a.found.witnesses.items b.found.witnesses.items c.found.witnesses.items h.witnesses k.witnesses;
+  reached = no_less_then a.found.reached.items b.found.reached.items c.found.reached.items h.reached k.reached;
+}
+
+-- more is found
+pub noted_further : (s : Search) (g : Findings) → IsSearch s → IsNoted s.met.scripts.now g → IsLonger s.found.witnesses.items g.witnesses.items → IsNoLess s.found.reached.items g.reached.items →
+    IsFurther s (record { aim = s.aim; met = s.met; found = g })
+noted_further s g is noted longer more = record {
+  search = record {
+    met = is.met;
+    found = noted;
+    counted = All-weaker (λ t. Covers s.found.reached.items (past_of t)) (λ t. Covers g.reached.items (past_of t)) (λ t. covers_more s.found.reached.items g.reached.items (past_of t) more) s.met.states.items is.counted;
+  };
+  aim = refl;
+  met = met_self s.met;
+  witnesses = longer;
+  reached = more;
+}
+
+same_state : (s : Search) (t u : Case) → IsSameCase t u → IsState s.aim s.met.scripts.now t → IsState s.aim s.met.scripts.now u
+same_state s t u one = state_same s.met.scripts.now t u one.behaviours one.entries
+
 -- one state more, that is counted
-pub kept_with : {aim : Verdict} (scripts : List ScriptView) (met after : Met) (f g : Findings) (t : Case) → AreKept aim scripts met f → IsNoLess f.reached.items g.reached.items → IsState aim scripts t → Covers g.reached.items (past_of t) →
-    IsWith met.states.items t after.states.items → AreKeyed (key_of false (length scripts)) after → after.limit ≡ met.limit → length after.states.items ≤ met.limit → AreKept aim scripts after g
-kept_with {aim} scripts met after f g t kept more state covers with keyed limit within =
-    let now = kept_more scripts met f g more kept in
-    record {
-      few = omega (arith, limit, within);
-      each = all_with (λ u. IsState aim scripts u) met.states.items after.states.items t (λ u same. state_same scripts t u same.behaviours same.entries) with now.each state;
-      keyed = keyed;
-      counted = all_with (λ u. Covers g.reached.items (past_of u)) met.states.items after.states.items t (λ u same. subst (λ h. Covers g.reached.items (reverse h)) (sym same.entries)) with now.counted covers;
-    }
+pub kept_further : (s : Search) (t : Case) (after : Met) → IsSearch s → IsState s.aim s.met.scripts.now t → Covers s.found.reached.items (past_of t) → IsPlaced false t s.met after →
+    IsFurther s (record { aim = s.aim; met = after; found = s.found })
+kept_further s t after is state covers p = record {
+  search = record {
+    met = placed_met false (IsState s.aim) t s.met after (same_state s t) is.met state p;
+    found = subst (λ sc. IsNoted sc s.found) (sym p.scripts) is.found;
+    counted = all_with (λ u. Covers s.found.reached.items (past_of u)) s.met.states.items after.states.items t (λ u one. subst (λ h. Covers s.found.reached.items (reverse h)) (sym one.entries)) p.states is.counted covers;
+  };
+  aim = refl;
+  met = placed_further false t s.met after p;
+  witnesses = longer_self s.found.witnesses.items;
+  reached = no_less_self s.found.reached.items;
+}
 
-pub kept_states : {aim : Verdict} (scripts : List ScriptView) (met : Met) (found : Findings) → AreKept aim scripts met found → All (λ t. IsState aim scripts t) met.states.items
-kept_states scripts met found kept = kept.each
-
-pub ruleset kept_rules = (with_one, kept_none, kept_more, kept_states, longer_with, covered_more, no_less_self, no_less_then)
+-- and seen
+pub placed_seen : (s : Search) (t : Case) (after : Met) → IsSearch s → IsState s.aim s.met.scripts.now t → IsPlaced false t s.met after → IsSeen after (past_of t)
+placed_seen s t after is state p =
+    seen_by_key s.met.scripts.now after t is.met.some state (all_with (IsState s.aim s.met.scripts.now) s.met.states.items after.states.items t (same_state s t) p.states is.met.each state) (p.known is.met.keyed)
 
 -- ---- what is told
 
@@ -178,10 +245,10 @@ most_of m n k is = search rules
 pub met_max : (scripts : List ScriptView) (before after : List ℕ) (m n k : ℕ) → k ≡ max m n → IsNoLess before after → AreAllMet scripts before m → AreAllMet scripts after n → AreAllMet scripts after k
 met_max scripts before after m n k most more one other = subst (AreAllMet scripts after) (sym most) (max_by (AreAllMet scripts after) m n (met_more scripts before after m more one) other)
 
-pub met_of : {aim : Verdict} (scripts : List ScriptView) (met : Met) (found : Findings) → AreKept aim scripts met found → IsDistinct (λ x y. pointwise nat_eq x.items y.items) met.keys.keys → AreAllMet scripts found.reached.items (length met.keys.keys)
-met_of {aim} scripts met found kept distinct = record {
-  courses = map past_of met.states.items;
-  are = courses_of scripts (key_of false (length scripts)) met kept.keyed distinct
-      (All-weaker (λ t. IsState aim scripts t) (λ t. IsCourse scripts (past_of t)) (λ t s. s.opened.on.course) met.states.items kept.each);
-  counted = All-map (Covers found.reached.items) past_of met.states.items kept.counted;
+pub met_of : (s : Search) → IsSearch s → IsDistinct (λ x y. pointwise nat_eq x.items y.items) s.met.keys.keys → AreAllMet s.met.scripts.now s.found.reached.items (length s.met.keys.keys)
+met_of s is distinct = record {
+  courses = map past_of s.met.states.items;
+  are = courses_of s.met.scripts.now (key_of false (length s.met.scripts.now)) s.met is.met.keyed distinct
+      (All-weaker (λ t. IsState s.aim s.met.scripts.now t) (λ t. IsCourse s.met.scripts.now (past_of t)) (λ t u. u.opened.on.course) s.met.states.items is.met.each);
+  counted = All-map (Covers s.found.reached.items) past_of s.met.states.items is.counted;
 }

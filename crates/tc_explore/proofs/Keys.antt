@@ -3,7 +3,7 @@ use Rattle.std.{proofs.{Common.{ℕ, zero, suc, ◌≡◌, ◌+◌, ◌==◌, �
 use Rattle.tc_rules.{specs.{Prelude.{level_of, Comp, Entry, Op, Case, past_of, components, is_alive_type, phase_if_any, overall, is_active, Verdict, phase, Phase, comp_of, exists, IsLegal, Target}, declared.component_state.ComponentState.ComponentState}, proofs.Lemmas.{Deciding.equal_if, Numbered.{exists_below, comps_numbered}}}
 use Rattle.tc_step.specs.Prelude.{ScriptView}
 use Rattle.tc_course.{specs.Prelude.{CourseState, stand, IsCourse}, proofs.Lemmas.{course_legal, run_in_range, stand_comp}}
-use Rattle.tc_explore.{specs.Inside.{Seen.{IsSame, IsSeen, IsState}, Simulation.IsAlike, Twins.{IsKnown, comp_code, comp_key, key_of, number_of, phase_code, run_key, run_key_of, wake_key}}, proofs.{Keeping.active_stays, Sameness.{same_comp, same_phase, same_verdict}, Simulation.some_if, Alike.{none_unless, fresh}}}
+use Rattle.tc_explore.{specs.{Inside.{Seen.{IsSame, IsSeen, IsState}, Simulation.IsAlike, Twins.{IsKnown, comp_code, comp_key, key_of, number_of, phase_code, run_key, run_key_of, wake_key}}, declared.search.Met.Met}, proofs.{Keeping.active_stays, Sameness.{same_comp, same_phase, same_verdict}, Simulation.some_if, Alike.{none_unless, fresh}}}
 
 -- ---- lists that begin alike
 
@@ -288,8 +288,9 @@ keys_apart items key (x ∷ ks) (t ∷ ts) h d (suc i) zero s r here there same 
     absurd (not_later items (λ u. key (past_of u)) (items x) ks ts i s others d.0 here (first ∙ ap key (ap past_of is ∙ sym same)))
 
 -- what a key that is known leads to
-pub seen_by_key : {aim : Verdict} (scripts : List ScriptView) (states : List Case) (t : Case) → 1 ≤ length scripts → IsState aim scripts t → All (λ u. IsState aim scripts u) states → IsKnown (key_of false (length scripts)) states (past_of t) →
-    IsSeen states (past_of t)
-seen_by_key {aim} scripts states t some state each f =
-    let there : IsState aim scripts f.1 = subst (IsState aim scripts) (get_or_from_slice_get states f.0 f.1 f.1 f.2) (each f.0 f.1 (slice_get_within states f.0 f.1 f.2)) in
+pub seen_by_key : {aim : Verdict} (scripts : List ScriptView) (met : Met) (t : Case) → 1 ≤ length scripts → IsState aim scripts t → All (λ u. IsState aim scripts u) met.states.items →
+    (met.is_whole ≡ true → IsKnown (key_of false (length scripts)) met.states.items (past_of t)) → IsSeen met (past_of t)
+seen_by_key {aim} scripts met t some state each known = λ whole.
+    let f = known whole in
+    let there : IsState aim scripts f.1 = subst (IsState aim scripts) (get_or_from_slice_get met.states.items f.0 f.1 f.1 f.2) (each f.0 f.1 (slice_get_within met.states.items f.0 f.1 f.2)) in
     (f.0, f.1, f.2, same_by_key scripts t f.1 some state there f.3)

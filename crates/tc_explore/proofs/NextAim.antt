@@ -1,9 +1,9 @@
 -- Searches for verdicts, each up to a better one: what they have found together.
-use Rattle.std.proofs.{lemmas.Bool.{and_parts, Decides.nat_tests, cases_lt}, Common.{ℕ, suc, ◌≡◌, ◌<◌, ◌≤◌, ◌&&◌, nat_le, if◌then◌else◌, Bool, true, false, Option, Some, None, List, refl, ap, sym, subst, ◌∙◌, arith, [], length, reverse, ⊎_elim}}
+use Rattle.std.proofs.{lemmas.Bool.{and_parts, Decides.nat_tests, cases_lt}, Common.{ℕ, suc, ◌≡◌, ◌<◌, ◌≤◌, ◌&&◌, nat_le, if◌then◌else◌, Bool, true, false, Option, Some, None, List, refl, ap, sym, subst, ◌∙◌, arith, [], length, reverse, slice_get, ⊎_elim}}
 use Rattle.tc_rules.specs.Prelude.{Verdict, level_of, Case, past_of, overall}
 use Rattle.tc_step.specs.Prelude.{ScriptView}
 use Rattle.tc_course.specs.{declared.witness.Witness.Witness, Prelude.{is_found, AllFound}}
-use Rattle.tc_explore.{specs.Inside.{Seen.{AllTold, AreClosed, AreFoundAbove, IsLonger, IsSeen, IsToldBy, is_found_within, next_aim}, Simulation.IsCovered}, proofs.{Closing.{SeenIsClosed, complete_is_told}, Sameness.{at_most_error, same_for, same_verdict}, Seeing.found_longer}}
+use Rattle.tc_explore.{specs.{Inside.{Seen.{AllTold, AreFoundAbove, IsClosedFrom, IsLonger, IsSeen, IsToldBy, is_found_within, next_aim}, Simulation.IsCovered}, declared.search.Search.Search}, proofs.{Closing.{SeenIsClosed, complete_is_told}, Sameness.{at_most_error, same_for, same_verdict}, Seeing.found_longer}}
 
 -- if a verdict as bad is found of one that is worse than this one, if there is one, it is found itself
 abbrev IsDecided : List Witness → Verdict → Option Verdict → Type 0
@@ -107,12 +107,14 @@ above_error scripts found v worse gives = let most = at_most_error v in absurd (
 
 pub ruleset aim_rules = (above_error)
 
-seen_closed : {aim : Verdict} (scripts : List ScriptView) (states : List Case) (found : List Witness) → AreClosed aim scripts states found → SeenIsClosed aim scripts (IsSeen states) found
-seen_closed scripts states found closed r p seen course for =
-    (past_of seen.1, closed seen.0 seen.1 seen.2, same_for scripts r (past_of seen.1) p seen.3 for)
-
-pub closed_is_complete : {aim : Verdict} (scripts : List ScriptView) (states : List Case) (found : List Witness) → 1 ≤ length scripts → IsCovered aim scripts (IsSeen states) [] → AreClosed aim scripts states found → AllTold aim scripts found
-closed_is_complete {aim} scripts states found some start closed v within gives =
+pub closed_is_complete : (s : Search) → s.met.is_whole ≡ true → 1 ≤ length s.met.scripts.now → IsCovered s.aim s.met.scripts.now (IsSeen s.met) [] →
+    ((i : ℕ) (t : Case) → slice_get s.met.states.items i ≡ Some t → IsClosedFrom s (past_of t)) → AllTold s.aim s.met.scripts.now s.found.witnesses.items
+closed_is_complete s whole some start closed v within gives =
     let is : v ≡ overall (reverse gives.0) = gives.1.verdict in
-    subst (λ x. IsToldBy aim found x) (sym is)
-    (complete_is_told aim scripts (IsSeen states) found some (seen_closed scripts states found closed) start (reverse gives.0) gives.1.course gives.1.complete (let same = ap level_of is in omega (arith, same, within)))
+    subst (λ x. IsToldBy s.aim s.found.witnesses.items x) (sym is)
+    (complete_is_told s.aim s.met.scripts.now (IsSeen s.met) s.found.witnesses.items some seen_closed start (reverse gives.0) gives.1.course gives.1.complete (let same = ap level_of is in omega (arith, same, within)))
+  where
+    seen_closed : SeenIsClosed s.aim s.met.scripts.now (IsSeen s.met) s.found.witnesses.items
+    seen_closed r p seen course for =
+        let there = seen whole in
+        (past_of there.1, closed there.0 there.1 there.2, same_for s.met.scripts.now r (past_of there.1) p there.3 for)

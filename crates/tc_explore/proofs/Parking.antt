@@ -2,8 +2,8 @@
 use Rattle.std.proofs.{Common.{ℕ, ◌≡◌, ◌<◌, ◌≤◌, ◌+◌, ◌==◌, ◌⊎◌, inl, inr, if◌then◌else◌, Bool, true, false, Option, Some, None, List, [], ◌∷◌, length, slice_get, slice_index_or, refl, ap, sym, subst, ◌∙◌, arith, get_or}, lemmas.{Bool.false_from_ne_true, List.Sums.list_all-from_AllPass}}
 use Rattle.tc_rules.{specs.Prelude.{Run, Comp, Entry, Op, Target, Phase, Reply, Fault, is_ended, is_fault, is_wake, Case, past_of, comps, comp_of, is_alive_type, is_over, phase, last_run, was_killed, was_halted, overall, holds, waiting, waits_in_vain, is_still, is_stuck, fault, answer, plain_answer, is_active, is_run_of, IsLegal, Verdict}, proofs.Lemmas.{Deciding.{equal_if, self_equal}, Going.last_on_it, Steps.phase_by, Decided.overall_more}}
 use Rattle.tc_step.specs.Prelude.{ScriptView}
-use Rattle.tc_course.{specs.{Inside.{call_of, one_more_if}, declared.witness.Witness.Witness, Prelude.{CourseState, stand, goes_on, carried_on, turn, steps_of, IsTurn, IsCourse, is_found, IsOn}}, proofs.Lemmas.{course_legal, other_not_idle, has_turn, turn_of, never_wake, stand_own, stand_other, stand_comp, run_in_range, below_more}}
-use Rattle.tc_explore.{specs.{Found.Covers, Inside.{Seen.{AreHeld, AreStill, HasNoWake, IsOpen, IsRunClosed, IsStepped, IsSteppedIfActive}, Simulation.{GoesOn, IsAlike, is_quiet}}}, proofs.{Alike.{ChangesNothing, active_alike, alike_unchanged, fault_alike, holds_alike}, Closing.{answer_fault, error_is_worst, fault_of_wait, not_ended, parks_wait, quiet_reply}, Keeping.{active_stays, comp_main, main_goes}, LastCalls.turn_by, Places.{not_ending, stand_still}, Simulation.{some_if, unchanged_wait}, Ahead.{answer_plain, active_if}}}
+use Rattle.tc_course.{specs.{Inside.{call_of, one_more_if}, Prelude.{CourseState, stand, goes_on, carried_on, turn, steps_of, IsTurn, IsCourse, is_found, IsOn}}, proofs.Lemmas.{course_legal, other_not_idle, has_turn, turn_of, never_wake, stand_own, stand_other, stand_comp, run_in_range, below_more}}
+use Rattle.tc_explore.{specs.{Found.Covers, Inside.{Seen.{AreHeld, AreStill, HasNoWake, IsOpen, IsRunClosed, IsStepped, IsSteppedIfActive}, Simulation.{GoesOn, IsAlike, is_quiet}}, declared.search.Search.Search}, proofs.{Alike.{ChangesNothing, active_alike, alike_unchanged, fault_alike, holds_alike}, Closing.{answer_fault, error_is_worst, fault_of_wait, not_ended, parks_wait, quiet_reply}, Keeping.{active_stays, comp_main, main_goes}, LastCalls.turn_by, Places.{not_ending, stand_still}, Simulation.{some_if, unchanged_wait}, Ahead.{answer_plain, active_if}}}
 
 -- ---- who is held
 
@@ -339,14 +339,14 @@ stuck_end scripts t u v n some whole o on h step = by_step step
 
 -- ---- if none continues, and no error is found
 
-pub held_if : {aim : Verdict} (scripts : List ScriptView) (states : List Case) (found : List Witness) (q : List Entry) → IsCourse scripts q → AreStill scripts q (length scripts) →
-    ((b : ℕ) → b < length scripts → IsRunClosed aim scripts states found q b) → is_found found Verdict.Error ≡ false → AreHeld scripts q
-held_if scripts states found q course still closed none b near e own mine = false_from_ne_true (goes_on e.reply) (λ k. by_reply k e.reply refl (still b near e own mine k))
+pub held_if : (s : Search) (q : List Entry) → IsCourse s.met.scripts.now q → AreStill s.met.scripts.now q (length s.met.scripts.now) →
+    ((b : ℕ) → b < length s.met.scripts.now → IsRunClosed s q b) → is_found s.found.witnesses.items Verdict.Error ≡ false → AreHeld s.met.scripts.now q
+held_if s q course still closed none b near e own mine = false_from_ne_true (goes_on e.reply) (λ k. by_reply k e.reply refl (still b near e own mine k))
   where
     by_reply : goes_on e.reply ≡ true → (r : Reply) → e.reply ≡ r → is_fault r ≡ true → ⊥
     by_reply k (Reply.Fault f) is h =
-        let ends = fault_ends (length scripts) q e f (course_legal scripts (e ∷ q) (mine, course)) is in
-        let told : is_found found Verdict.Error ≡ true = ap (is_found found) (sym ends.1) ∙ (closed b near e own mine k).over ends.0 in
+        let ends = fault_ends (length s.met.scripts.now) q e f (course_legal s.met.scripts.now (e ∷ q) (mine, course)) is in
+        let told : is_found s.found.witnesses.items Verdict.Error ≡ true = ap (is_found s.found.witnesses.items) (sym ends.1) ∙ (closed b near e own mine k).over ends.0 in
         absurd cc
     by_reply k _ is h = absurd cc
 

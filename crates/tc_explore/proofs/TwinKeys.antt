@@ -3,7 +3,7 @@ use Rattle.std.proofs.{Common.{ℕ, ◌≡◌, ◌==◌, ◌+◌, ◌<◌, ◌�
 use Rattle.tc_rules.specs.{Prelude.{Verdict, Entry, Op, Reply, Case, past_of, components, exists, local, local_if_any, is_active, is_wake, Target}, declared.component_state.ComponentState.ComponentState}
 use Rattle.tc_step.specs.Prelude.{ScriptView}
 use Rattle.tc_course.{specs.{Prelude.{stand, IsCourse}, Inside.wake_if}, proofs.Lemmas.{course_legal, run_in_range}}
-use Rattle.tc_explore.{specs.Inside.Twins.{IsGoing, IsKnown, IsTwin, IsTwinSeen, key_of, local_code, wake_key, comp_key, run_key, run_key_of}, proofs.{Alike.fresh, Keys.{alike_by_key, stand_by_key, IsOneKey, k, there, run_calls}, Sameness.same_verdict, Simulation.some_if, Places.wake_after}}
+use Rattle.tc_explore.{specs.{Inside.{Locals.IsTwinSeen, Twins.{IsGoing, IsKnown, IsTwin, key_of, local_code, wake_key, comp_key, run_key, run_key_of}}, declared.search.Met.Met}, proofs.{Alike.fresh, Keys.{alike_by_key, stand_by_key, IsOneKey, k, there, run_calls}, Sameness.same_verdict, Simulation.some_if, Places.wake_after}}
 
 -- ---- the Wake to come
 
@@ -85,7 +85,9 @@ module _ (scripts : List ScriptView) (p q : List Entry) (some : 1 ≤ length scr
       near b act = let on = some_if p b act in run_in_range (length scripts) p b on.0 some (course_legal scripts p cp) on.1
 
 -- what a key that is known leads to
-pub seen_by_twin_key : (scripts : List ScriptView) (states : List Case) (t : Case) → 1 ≤ length scripts → IsGoing scripts t → All (IsGoing scripts) states → IsKnown (key_of true (length scripts)) states (past_of t) → IsTwinSeen states (past_of t)
-seen_by_twin_key scripts states t some state each f =
-    let there : IsGoing scripts f.1 = subst (IsGoing scripts) (get_or_from_slice_get states f.0 f.1 f.1 f.2) (each f.0 f.1 (slice_get_within states f.0 f.1 f.2)) in
+pub seen_by_twin_key : (scripts : List ScriptView) (met : Met) (t : Case) → 1 ≤ length scripts → IsGoing scripts t → All (IsGoing scripts) met.states.items →
+    (met.is_whole ≡ true → IsKnown (key_of true (length scripts)) met.states.items (past_of t)) → IsTwinSeen met (past_of t)
+seen_by_twin_key scripts met t some state each known = λ whole.
+    let f = known whole in
+    let there : IsGoing scripts f.1 = subst (IsGoing scripts) (get_or_from_slice_get met.states.items f.0 f.1 f.1 f.2) (each f.0 f.1 (slice_get_within met.states.items f.0 f.1 f.2)) in
     (f.0, f.1, f.2, twin_by_key scripts (past_of f.1) (past_of t) some there.on.course state.on.course (sym f.3))

@@ -3,3 +3,4 @@ pub mod Simulation
 pub mod Seen
 pub mod Played
 pub mod Twins
+pub mod Locals

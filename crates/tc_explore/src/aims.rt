@@ -1,11 +1,11 @@
 //! The searches for the verdicts of a test case, each up to a better verdict than the last.
-ghost use Rattle.std.specs.Prelude.{◌≡◌, ◌≤◌, false, IfOk, OnOk, length};
+ghost use Rattle.std.specs.Prelude.{◌≡◌, ◌≤◌, false, IfOk, length};
 ghost use Rattle.tc_entry.specs.declared.limits.TheConstants.{BEHAVIOURS};
 ghost use Rattle.tc_explore.specs.{Found.AreFromBest, Inside.Seen.IsNoted, Inside.Seen.IsSearched};
 ghost use Rattle.tc_explore.specs.Inside.Seen as seen;
 
 use crate::findings::{Findings, order};
-use crate::search::{Extent, search_all};
+use crate::search::{Searched, search_all};
 use crate::straight::note_straight;
 use std::alloc::Global;
 use tc_course::{Witness, is_found, level};
@@ -46,29 +46,33 @@ fn search_by_aims(
     alloc: Global,
     scripts: &[Script],
     limit: usize,
-    found: &mut Findings,
-) -> Result<Extent, NoMemory>
+    found: Findings,
+) -> Result<Searched, NoMemory>
     requires some { 1 ≤ length scripts.now }
     requires few { length scripts.now ≤ BEHAVIOURS }
-    requires found { IsNoted scripts.now found.old }
-    ensures searched { IfOk result (IsSearched scripts.now limit found.new) }
-    ensures told { IfOk result (λ e. e.is_whole ≡ false → 1 ≤ length found.new.witnesses.items) }
+    requires found { IsNoted scripts.now found }
+    ensures searched { IfOk result (IsSearched scripts.now limit) }
+    ensures told { IfOk result (λ s. s.is_whole ≡ false → 1 ≤ length s.found.witnesses.items) }
 {
     let mut aim = Verdict::Error;
+    let mut found = found;
     let mut states = 0;
     loop {
-        let extent = search_all(aim, alloc, scripts, limit, found)?;
-        states = states.max(extent.states);
-        if !extent.is_whole {
-            note_straight(alloc, scripts, found)?;
-            return Ok(Extent {
+        let searched = search_all(aim, alloc, scripts, limit, found)?;
+        found = searched.found;
+        states = states.max(searched.states);
+        if !searched.is_whole {
+            note_straight(alloc, scripts, &mut found)?;
+            return Ok(Searched {
+                found,
                 states,
                 is_whole: false,
             });
         }
         match next_aim(&found.witnesses, aim) {
             None => {
-                return Ok(Extent {
+                return Ok(Searched {
+                    found,
                     states,
                     is_whole: true,
                 });
@@ -84,16 +88,16 @@ pub(crate) fn search_verdicts(
     alloc: Global,
     scripts: &[Script],
     limit: usize,
-    found: &mut Findings,
-) -> Result<Extent, NoMemory>
+    found: Findings,
+) -> Result<Searched, NoMemory>
     requires some { 1 ≤ length scripts.now }
     requires few { length scripts.now ≤ BEHAVIOURS }
-    requires found { IsNoted scripts.now found.old }
-    ensures searched { IfOk result (IsSearched scripts.now limit found.new) }
-    ensures ordered { OnOk result (AreFromBest found.new.witnesses.items) }
-    ensures told { IfOk result (λ e. e.is_whole ≡ false → 1 ≤ length found.new.witnesses.items) }
+    requires found { IsNoted scripts.now found }
+    ensures searched { IfOk result (IsSearched scripts.now limit) }
+    ensures ordered { IfOk result (λ s. AreFromBest s.found.witnesses.items) }
+    ensures told { IfOk result (λ s. s.is_whole ≡ false → 1 ≤ length s.found.witnesses.items) }
 {
-    let extent = search_by_aims(alloc, scripts, limit, found)?;
-    order(&mut found.witnesses);
-    Ok(extent)
+    let mut searched = search_by_aims(alloc, scripts, limit, found)?;
+    order(&mut searched.found.witnesses);
+    Ok(searched)
 }

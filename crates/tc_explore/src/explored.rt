@@ -11,7 +11,6 @@ ghost use Rattle.tc_explore.specs.Limits as limits;
 use crate::aims::search_verdicts;
 use crate::findings::no_findings;
 use crate::limits::{ending_of, most_of};
-use crate::marks::Marks;
 use crate::search_locals::search_locals;
 use std::alloc::Global;
 use tc_course::{Ending, Explored, Limit, Locals};
@@ -39,7 +38,7 @@ pub fn explore(alloc: Global, scripts: &[Script], limit: usize) -> Result<Explor
     ensures told { IfOk result (λ e. (l : MetLimit) → e.ending ≡ Undecided l → 1 ≤ length scripts.now → 1 ≤ length e.found) }
     ensures nothing { IfOk result (λ e. scripts.now ≡ [] → (e.ending ≡ Undecided OfStates) × (e.found ≡ []) × (e.states ≡ 0)) }
 {
-    let mut found = no_findings(alloc, scripts)?;
+    let found = no_findings(alloc, scripts)?;
     if scripts.is_empty() {
         return Ok(Explored {
             found: Sequence::new(found.witnesses),
@@ -49,27 +48,13 @@ pub fn explore(alloc: Global, scripts: &[Script], limit: usize) -> Result<Explor
         });
     }
     let most = most_of(scripts, limit).ok_or(NoMemory)?;
-    let extent = search_verdicts(alloc, scripts, most.states, &mut found)?;
+    let searched = search_verdicts(alloc, scripts, most.states, found)?;
     Ok(Explored {
-        found: Sequence::new(found.witnesses),
-        reached: Sequence::new(found.reached),
-        states: extent.states,
-        ending: ending_of(extent.is_whole, most.limit),
+        found: Sequence::new(searched.found.witnesses),
+        reached: Sequence::new(searched.found.reached),
+        states: searched.states,
+        ending: ending_of(searched.is_whole, most.limit),
     })
-}
-
-// What was found, in a search that ended so.
-fn locals_of(marks: Marks, states: usize, ending: Ending) -> Locals
-    ensures found { result.found ≡ marks.found.items }
-    ensures states { result.states ≡ states }
-    ensures ending { result.ending ≡ ending }
-{
-    Locals {
-        found: Sequence::new(marks.found),
-        names: Sequence::new(marks.names),
-        states,
-        ending,
-    }
 }
 
 /// Looks for the local verdicts that the components of a test case have at the end of its complete courses. The states of
@@ -84,12 +69,14 @@ pub fn explore_locals(alloc: Global, scripts: &[Script], limit: usize) -> Result
     ensures most { IfOk result (λ l. l.states ≤ limits.most_states scripts.now limit) }
     ensures undecided { IfOk result (λ l. (m : MetLimit) → l.ending ≡ Undecided m → 1 ≤ length scripts.now → IsAtLimit scripts.now limit l.states m) }
 {
-    let mut marks = Marks::new(alloc);
     if scripts.is_empty() {
-        return Ok(locals_of(marks, 0, Ending::Undecided(Limit::States)));
+        return Ok(Locals {
+            found: Sequence::new(Vec::new(alloc)),
+            names: Sequence::new(Vec::new(alloc)),
+            states: 0,
+            ending: Ending::Undecided(Limit::States),
+        });
     }
     let most = most_of(scripts, limit).ok_or(NoMemory)?;
-    let extent = search_locals(alloc, scripts, most.states, &mut marks)?;
-    let ending = ending_of(extent.is_whole, most.limit);
-    Ok(locals_of(marks, extent.states, ending))
+    search_locals(alloc, scripts, most)
 }

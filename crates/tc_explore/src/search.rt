@@ -1,11 +1,11 @@
 //! The search for verdicts up to one. It follows the calls of all runs, makes those at once of which nobody can see that
 //! they were made, and goes no further where the verdict is worse. If it comes to its end nothing up to that is missed.
-ghost use Rattle.std.specs.Prelude.{◌≡◌, ◌≤◌, ◌<◌, ◌&&◌, ◌∷◌, true, false, ℕ, List, IfOk, OnOk, length, slice_index_or};
+ghost use Rattle.std.specs.Prelude.{◌≡◌, ◌≤◌, ◌<◌, ◌∷◌, true, false, IfOk, OnOk, length, slice_index_or};
 ghost use Rattle.tc_entry.specs.declared.limits.TheConstants.{BEHAVIOURS};
-ghost use Rattle.tc_rules.specs.Prelude.{Entry, past_of, answer, entry_made};
-ghost use Rattle.tc_course.specs.Prelude.{IsOn, IsNext, carried_on, goes_on};
+ghost use Rattle.tc_rules.specs.Prelude.{past_of, entry_made};
+ghost use Rattle.tc_course.specs.Prelude.{IsOn, IsNext, carried_on};
 ghost use Rattle.tc_verdict.specs.declared.verdict.Verdict.TheVariants.{Error};
-ghost use Rattle.tc_explore.specs.{Found.AreAllMet, Inside.{Seen.{AllTold, AreClosed, AreHeld, AreKept, AreRunsClosed, AreStill, IsCallClosed, IsFull, IsLonger, IsNoLess, IsNoted, IsOpen, IsRunClosed, IsSeen, IsState, IsStillAt, IsWith}, Simulation.IsClosed, Twins.{AreKeyed, IsKnown}}};
+ghost use Rattle.tc_explore.specs.{Found.AreAllMet, Inside.{Seen.{AllTold, AreHeld, IsClosedFrom, IsFurther, IsLonger, IsNoLess, IsNoted, IsOpen, IsPlaced, IsRunClosed, IsSearch, IsSeen, IsState, IsStillAt}, Simulation.{IsCovered, IsWithin}}};
 ghost use Rattle.tc_explore.specs.Inside.Simulation as moves;
 
 use crate::calls::Kept;
@@ -20,65 +20,15 @@ use tc_entry::Op;
 use tc_step::Script;
 use tc_verdict::{NoMemory, Run, Verdict};
 
-/// The states that were met, by a course each, at most that many; and the key of each.
+/// The states of scripts that were met, by a course each, at most that many; the key of each; and whether none was left out.
 #[derive(Drop)]
 pub(crate) struct Met<'a> {
+    pub(crate) alloc: Global,
+    pub(crate) scripts: &'a [Script],
     pub(crate) states: Vec<Kept<'a>>,
     pub(crate) keys: IndexSet<Vec<u64>>,
     pub(crate) limit: usize,
-}
-
-/// How many states a search looked at, and whether it came to its end within its limit.
-#[derive(Clone, Copy)]
-pub(crate) struct Extent {
-    pub(crate) states: usize,
     pub(crate) is_whole: bool,
-}
-
-/// The extent of a search that has met that many states. It came to its end if the first was taken in, and what comes after
-/// each is seen.
-pub(crate) fn extent_of(states: usize, is_placed: bool, is_closed: bool) -> Extent
-    ensures { result ≡ record { states = states; is_whole = is_placed && is_closed } }
-{
-    Extent {
-        states,
-        is_whole: is_placed && is_closed,
-    }
-}
-
-/// Takes in the state of a course, which has this key, and returns whether a state of that key is met: one is, unless as
-/// many as the limit are.
-#[tactic(auto, using(crate::proofs::Kept::with_one))]
-pub(crate) fn place<'a>(
-    alloc: Global,
-    scripts: &'a [Script],
-    course: &Course,
-    key: Vec<u64>,
-    met: &mut Met<'a>,
-) -> Result<bool, NoMemory>
-    requires some { 1 ≤ length scripts.now }
-    requires few { length scripts.now ≤ BEHAVIOURS }
-    requires on { IsOn scripts.now course.now }
-    ensures with_it { OnOk result (IsWith met.old.states.items course.now met.new.states.items) }
-    ensures keyed { OnOk result ((of : List Entry → List ℕ) → key.items ≡ of (past_of course.now) → AreKeyed of met.old → AreKeyed of met.new) }
-    ensures limit { met.new.limit ≡ met.old.limit }
-    ensures within { length met.old.states.items ≤ met.old.limit → length met.new.states.items ≤ met.old.limit }
-    ensures known { IfOk result (λ is_known. is_known ≡ true → (of : List Entry → List ℕ) → key.items ≡ of (past_of course.now)
-        → AreKeyed of met.old → IsKnown of met.new.states.items (past_of course.now)) }
-    ensures full { IfOk result (λ is_known. is_known ≡ false → IsFull met.old) }
-{
-    if met.keys.contains(&key) {
-        return Ok(true);
-    }
-    if met.states.len() >= met.limit {
-        return Ok(false);
-    }
-    let mut key = key;
-    key.shrink_to_fit();
-    met.keys.insert(key)?;
-    let kept = Kept::of(alloc, scripts, course)?;
-    met.states.push(kept)?;
-    Ok(true)
 }
 
 /// The course with one more call; the course itself is kept.
@@ -98,246 +48,158 @@ pub(crate) fn with_call(
     course.copied(alloc)?.with(run, op)
 }
 
-// Makes a call, and returns whether what it leads to is seen, its verdict is found, or is worse than is looked for.
-#[tactic(auto, using(crate::proofs::Closed::closed_rules, crate::proofs::Seeing::seeing_rules, crate::proofs::Keeping::keeping_rules, crate::proofs::Keeping::open_next, crate::proofs::Kept::kept_rules))]
-fn after_call<'a>(
-    aim: Verdict,
-    alloc: Global,
-    scripts: &'a [Script],
-    course: &Course,
-    run: Run,
-    op: Op,
-    met: &mut Met<'a>,
-    found: &mut Findings,
-) -> Result<bool, NoMemory>
-    requires some { 1 ≤ length scripts.now }
-    requires few { length scripts.now ≤ BEHAVIOURS }
-    requires opened { IsOpen scripts.now course.now }
-    requires turn { IsNext scripts.now course.now run op }
-    requires goes { goes_on (answer course.now.behaviours (past_of course.now) run.0 op) ≡ true }
-    requires kept { AreKept aim scripts.now met.old found.old }
-    requires found { IsNoted scripts.now found.old }
-    ensures kept { OnOk result (AreKept aim scripts.now met.new found.new) }
-    ensures more_states { OnOk result (IsLonger met.old.states.items met.new.states.items) }
-    ensures found { OnOk result (IsNoted scripts.now found.new) }
-    ensures more_found { OnOk result (IsLonger found.old.witnesses.items found.new.witnesses.items) }
-    ensures more { OnOk result (IsNoLess found.old.reached.items found.new.reached.items) }
-    ensures limit { OnOk result (met.new.limit ≡ met.old.limit) }
-    ensures closed { IfOk result (λ is_closed. is_closed ≡ true → IsCallClosed aim scripts.now met.new found.new course.now run op) }
-    ensures full { IfOk result (λ is_closed. is_closed ≡ false → IsFull met.old) }
-{
-    let next = with_call(alloc, scripts, course, run, op)?;
-    if next.is_over() {
-        note(alloc, scripts, next, found)?;
-        return Ok(true);
-    }
-    if level(next.verdict()) > level(aim) {
-        return Ok(true);
-    }
-    let calm = calmed(aim, next, scripts)?;
-    reach(&mut found.reached, scripts, &calm);
-    let key = state_key(&calm, alloc, scripts.len() as u16, false)?;
-    let is_seen = place(alloc, scripts, &calm, key, met)?;
-    Ok(is_seen)
-}
-
-// What is known of the calls of a run, or of all: what they lead to is seen, and one that is no error continues.
-#[derive(Clone, Copy)]
-struct Tried {
-    is_closed: bool,
-    goes_on: bool,
-}
-
-// Makes the next call of a run.
-#[tactic(auto, using(crate::proofs::Closed::run_rules, crate::proofs::Seeing::seeing_rules, crate::proofs::Keeping::keeping_rules, crate::proofs::Kept::no_less_self))]
-fn try_run<'a>(
-    aim: Verdict,
-    alloc: Global,
-    scripts: &'a [Script],
-    course: &Course,
-    run: Run,
-    met: &mut Met<'a>,
-    found: &mut Findings,
-) -> Result<Tried, NoMemory>
-    requires few { length scripts.now ≤ BEHAVIOURS }
-    requires within { run.0 < length scripts.now }
-    requires state { IsState aim scripts.now course.now }
-    requires kept { AreKept aim scripts.now met.old found.old }
-    requires found { IsNoted scripts.now found.old }
-    ensures kept { OnOk result (AreKept aim scripts.now met.new found.new) }
-    ensures more_states { OnOk result (IsLonger met.old.states.items met.new.states.items) }
-    ensures found { OnOk result (IsNoted scripts.now found.new) }
-    ensures more_found { OnOk result (IsLonger found.old.witnesses.items found.new.witnesses.items) }
-    ensures more { OnOk result (IsNoLess found.old.reached.items found.new.reached.items) }
-    ensures limit { OnOk result (met.new.limit ≡ met.old.limit) }
-    ensures closed { IfOk result (λ t. t.is_closed ≡ true
-        → IsRunClosed aim scripts.now met.new.states.items found.new.witnesses.items (past_of course.now) run.0) }
-    ensures full { IfOk result (λ t. t.is_closed ≡ false → IsFull met.old) }
-    ensures goes_on { IfOk result (λ t. t.goes_on ≡ true → moves.GoesOn scripts.now (past_of course.now)) }
-    ensures still { IfOk result (λ t. t.goes_on ≡ false → IsStillAt scripts.now (past_of course.now) run.0) }
-{
-    let Some(op) = call_on(course, scripts, run) else {
-        return Ok(Tried {
-            is_closed: true,
-            goes_on: false,
-        });
-    };
-    let reply = course.would(run, &op);
-    let is_closed = after_call(aim, alloc, scripts, course, run, op, met, found)?;
-    Ok(Tried {
-        is_closed,
-        goes_on: !reply.is_fault(),
-    })
-}
-
-// Makes the next call of each run.
-#[tactic(auto, using(crate::proofs::Closed::runs_rules, crate::proofs::Seeing::seeing_rules, crate::proofs::Kept::no_less_self))]
-fn try_runs<'a>(
-    aim: Verdict,
-    alloc: Global,
-    scripts: &'a [Script],
-    course: &Course,
-    met: &mut Met<'a>,
-    found: &mut Findings,
-) -> Result<Tried, NoMemory>
-    requires few { length scripts.now ≤ BEHAVIOURS }
-    requires state { IsState aim scripts.now course.now }
-    requires kept { AreKept aim scripts.now met.old found.old }
-    requires found { IsNoted scripts.now found.old }
-    ensures kept { OnOk result (AreKept aim scripts.now met.new found.new) }
-    ensures more_states { OnOk result (IsLonger met.old.states.items met.new.states.items) }
-    ensures found { OnOk result (IsNoted scripts.now found.new) }
-    ensures more_found { OnOk result (IsLonger found.old.witnesses.items found.new.witnesses.items) }
-    ensures more { OnOk result (IsNoLess found.old.reached.items found.new.reached.items) }
-    ensures limit { OnOk result (met.new.limit ≡ met.old.limit) }
-    ensures closed { IfOk result (λ t. t.is_closed ≡ true → AreRunsClosed aim scripts.now met.new found.new course.now (length scripts.now)) }
-    ensures full { IfOk result (λ t. t.is_closed ≡ false → IsFull met.new) }
-    ensures goes_on { IfOk result (λ t. t.goes_on ≡ true → moves.GoesOn scripts.now (past_of course.now)) }
-    ensures still { IfOk result (λ t. t.goes_on ≡ false → AreStill scripts.now (past_of course.now) (length scripts.now)) }
-{
-    let mut is_closed = true;
-    let mut goes_on = false;
-    for run in 0..scripts.len() as u16 {
-        let tried = try_run(aim, alloc, scripts, course, Run(run), met, found)?;
-        is_closed = is_closed && tried.is_closed;
-        goes_on = goes_on || tried.goes_on;
-    }
-    Ok(Tried { is_closed, goes_on })
-}
-
-// Looks at the state of a course: makes the next call of each run, or ends the case if none continues and error is looked
-// for. It returns whether what comes after the state is seen, or found. It is, unless as many states as the limit are met.
-#[tactic(auto, using(crate::proofs::Closed::runs_rules, crate::proofs::Seeing::seeing_rules, crate::proofs::Keeping::keeping_rules, crate::proofs::Parking::held_if, crate::proofs::Kept::kept_rules))]
-fn expand_course<'a>(
-    aim: Verdict,
-    alloc: Global,
-    scripts: &'a [Script],
-    course: &Course,
-    met: &mut Met<'a>,
-    found: &mut Findings,
-) -> Result<bool, NoMemory>
-    requires some { 1 ≤ length scripts.now }
-    requires few { length scripts.now ≤ BEHAVIOURS }
-    requires state { IsState aim scripts.now course.now }
-    requires kept { AreKept aim scripts.now met.old found.old }
-    requires found { IsNoted scripts.now found.old }
-    ensures kept { OnOk result (AreKept aim scripts.now met.new found.new) }
-    ensures more_states { OnOk result (IsLonger met.old.states.items met.new.states.items) }
-    ensures found { OnOk result (IsNoted scripts.now found.new) }
-    ensures more_found { OnOk result (IsLonger found.old.witnesses.items found.new.witnesses.items) }
-    ensures more { OnOk result (IsNoLess found.old.reached.items found.new.reached.items) }
-    ensures limit { OnOk result (met.new.limit ≡ met.old.limit) }
-    ensures closed { IfOk result (λ c. c ≡ true
-        → IsClosed aim scripts.now (IsSeen met.new.states.items) found.new.witnesses.items (past_of course.now)) }
-    ensures stuck { IfOk result (λ c. c ≡ true → aim ≡ Error → AreHeld scripts.now (past_of course.now)
-        → carried_on (past_of course.now) 0 < slice_index_or found.new.reached.items 0 0) }
-    ensures full { IfOk result (λ is_closed. is_closed ≡ false → IsFull met.new) }
-{
-    let tried = try_runs(aim, alloc, scripts, course, met, found)?;
-    if !tried.is_closed {
-        return Ok(false);
-    }
-    if tried.goes_on {
-        return Ok(true);
-    }
-    if level(aim) < level(Verdict::Error) {
-        return Ok(true);
-    }
-    let stuck = with_stuck(course.copied(alloc)?, scripts)?;
-    if is_found(&found.witnesses, Verdict::Error) {
-        reach(&mut found.reached, scripts, &stuck);
-        return Ok(true);
-    }
-    note(alloc, scripts, stuck, found)?;
-    Ok(true)
-}
-
-// Looks at all states, and returns whether what comes after each is seen, or found.
-#[tactic(auto, using(crate::proofs::States::loop_rules, crate::proofs::Closed::longer_then, crate::proofs::Seeing::seeing_rules, crate::proofs::Keeping::keeping_rules, crate::proofs::Kept::kept_rules))]
-fn expand_all<'a>(
-    aim: Verdict,
-    alloc: Global,
-    scripts: &'a [Script],
-    met: &mut Met<'a>,
-    found: &mut Findings,
-) -> Result<bool, NoMemory>
-    requires some { 1 ≤ length scripts.now }
-    requires few { length scripts.now ≤ BEHAVIOURS }
-    requires kept { AreKept aim scripts.now met.old found.old }
-    requires found { IsNoted scripts.now found.old }
-    ensures more_states { OnOk result (IsLonger met.old.states.items met.new.states.items) }
-    ensures found { OnOk result (IsNoted scripts.now found.new) }
-    ensures kept { OnOk result (AreKept aim scripts.now met.new found.new) }
-    ensures more_found { OnOk result (IsLonger found.old.witnesses.items found.new.witnesses.items) }
-    ensures more { OnOk result (IsNoLess found.old.reached.items found.new.reached.items) }
-    ensures limit { OnOk result (met.new.limit ≡ met.old.limit) }
-    ensures closed { IfOk result (λ is_whole. is_whole ≡ true → AreClosed aim scripts.now met.new.states.items found.new.witnesses.items) }
-    ensures full { IfOk result (λ is_whole. is_whole ≡ false → IsFull met.new) }
-{
-    let mut is_closed = true;
-    let limit = met.limit;
-    for at in 0..limit {
-        if at >= met.states.len() {
-            return Ok(is_closed);
+impl<'a> Met<'a> {
+    /// Takes in the state of a course, unless one of its key is met, or as many as the limit are. Local verdicts and waits
+    /// count in keys, or not.
+    pub(crate) fn place(&mut self, course: &Course, all: bool) -> Result<(), NoMemory>
+        requires some { 1 ≤ length self.old.scripts.now }
+        requires few { length self.old.scripts.now ≤ BEHAVIOURS }
+        requires on { IsOn self.old.scripts.now course.now }
+        ensures { OnOk result (IsPlaced all course.now self.old self.new) }
+    {
+        let key = state_key(course, self.alloc, self.scripts.len() as u16, all)?;
+        if self.keys.contains(&key) {
+            return Ok(());
         }
-        let course = met.states[at].course(alloc)?;
-        let is_one_closed = expand_course(aim, alloc, scripts, &course, met, found)?;
-        is_closed = is_closed && is_one_closed;
+        if self.states.len() >= self.limit {
+            self.is_whole = false;
+            return Ok(());
+        }
+        let mut key = key;
+        key.shrink_to_fit();
+        self.keys.insert(key)?;
+        let kept = Kept::of(self.alloc, self.scripts, course)?;
+        self.states.push(kept)?;
+        Ok(())
     }
-    Ok(is_closed)
+}
+
+/// A search for verdicts up to one: the states that it has met, and what it has found.
+#[derive(Drop)]
+pub(crate) struct Search<'a> {
+    pub(crate) aim: Verdict,
+    pub(crate) met: Met<'a>,
+    pub(crate) found: Findings,
+}
+
+impl<'a> Search<'a> {
+    // Takes in what represents a course: that with the calls of which nobody can see that they were made.
+    fn keep(&mut self, course: Course) -> Result<(), NoMemory>
+        requires search { IsSearch self.old }
+        requires opened { IsOpen self.old.met.scripts.now course }
+        requires within { IsWithin self.old.aim (past_of course) }
+        ensures further { OnOk result (IsFurther self.old self.new) }
+        ensures seen { OnOk result (IsCovered self.old.aim self.old.met.scripts.now (IsSeen self.new.met) (past_of course)) }
+    {
+        let calm = calmed(self.aim, course, self.met.scripts)?;
+        reach(&mut self.found.reached, self.met.scripts, &calm);
+        self.met.place(&calm, false)
+    }
+
+    // Makes the next call of a run, unless that does not continue, and takes in what it leads to, or notes its verdict,
+    // unless that is worse than is looked for. It returns whether the call continues and is no error.
+    #[tactic(auto, using(crate::proofs::Closed::run_rules, crate::proofs::Seeing::seeing_rules, crate::proofs::Keeping::keeping_rules, crate::proofs::Keeping::open_next))]
+    fn try_run(&mut self, course: &Course, run: Run) -> Result<bool, NoMemory>
+        requires within { run.0 < length self.old.met.scripts.now }
+        requires search { IsSearch self.old }
+        requires state { IsState self.old.aim self.old.met.scripts.now course.now }
+        ensures further { OnOk result (IsFurther self.old self.new) }
+        ensures closed { OnOk result (IsRunClosed self.new (past_of course.now) run.0) }
+        ensures goes_on { IfOk result (λ on. on ≡ true → moves.GoesOn self.old.met.scripts.now (past_of course.now)) }
+        ensures still { IfOk result (λ on. on ≡ false → IsStillAt self.old.met.scripts.now (past_of course.now) run.0) }
+    {
+        let Some(op) = call_on(course, self.met.scripts, run) else {
+            return Ok(false);
+        };
+        let goes_on = !course.would(run, &op).is_fault();
+        let next = with_call(self.met.alloc, self.met.scripts, course, run, op)?;
+        if next.is_over() {
+            note(self.met.alloc, self.met.scripts, next, &mut self.found)?;
+            return Ok(goes_on);
+        }
+        if level(next.verdict()) > level(self.aim) {
+            return Ok(goes_on);
+        }
+        self.keep(next)?;
+        Ok(goes_on)
+    }
+
+    // Looks at the state of a course: makes the next call of each run, or ends the case if none continues and error is
+    // looked for.
+    #[tactic(auto, using(crate::proofs::Kept::further_self, crate::proofs::Keeping::keeping_rules))]
+    fn expand(&mut self, course: &Course) -> Result<(), NoMemory>
+        requires search { IsSearch self.old }
+        requires state { IsState self.old.aim self.old.met.scripts.now course.now }
+        ensures further { OnOk result (IsFurther self.old self.new) }
+        ensures closed { OnOk result (IsClosedFrom self.new (past_of course.now)) }
+        ensures stuck { OnOk result (self.old.aim ≡ Error → AreHeld self.old.met.scripts.now (past_of course.now)
+            → carried_on (past_of course.now) 0 < slice_index_or self.new.found.reached.items 0 0) }
+    {
+        let mut goes_on = false;
+        for run in 0..self.met.scripts.len() as u16 {
+            let is_on = self.try_run(course, Run(run))?;
+            goes_on = goes_on || is_on;
+        }
+        if goes_on || level(self.aim) < level(Verdict::Error) {
+            return Ok(());
+        }
+        let stuck = with_stuck(course.copied(self.met.alloc)?, self.met.scripts)?;
+        if is_found(&self.found.witnesses, Verdict::Error) {
+            reach(&mut self.found.reached, self.met.scripts, &stuck);
+            return Ok(());
+        }
+        note(self.met.alloc, self.met.scripts, stuck, &mut self.found)
+    }
+}
+
+/// What searches have found, how many states one looked at, at most, and whether the last came to its end within its limit.
+#[derive(Drop)]
+pub(crate) struct Searched {
+    pub(crate) found: Findings,
+    pub(crate) states: usize,
+    pub(crate) is_whole: bool,
 }
 
 /// Makes the calls of all runs from each state that is met, within a limit. It comes to its end unless it meets the limit.
 /// Then for each complete course whose verdict is no worse than is looked for, a verdict is found that is as bad.
-#[tactic(auto, using(crate::proofs::States::complete_by, tc_course::proofs::Lemmas::turn_rules, crate::proofs::Seeing::seeing_rules, crate::proofs::Keeping::open_opening, crate::proofs::Kept::kept_rules))]
+#[tactic(auto, using(tc_course::proofs::Lemmas::turn_rules, crate::proofs::Seeing::seeing_rules, crate::proofs::Keeping::open_opening))]
 pub(crate) fn search_all(
     aim: Verdict,
     alloc: Global,
     scripts: &[Script],
     limit: usize,
-    found: &mut Findings,
-) -> Result<Extent, NoMemory>
+    found: Findings,
+) -> Result<Searched, NoMemory>
     requires some { 1 ≤ length scripts.now }
     requires few { length scripts.now ≤ BEHAVIOURS }
-    requires found { IsNoted scripts.now found.old }
-    ensures found { OnOk result (IsNoted scripts.now found.new) }
-    ensures more_found { OnOk result (IsLonger found.old.witnesses.items found.new.witnesses.items) }
-    ensures more { OnOk result (IsNoLess found.old.reached.items found.new.reached.items) }
-    ensures met { IfOk result (λ e. AreAllMet scripts.now found.new.reached.items e.states) }
-    ensures complete { IfOk result (λ e. e.is_whole ≡ true → AllTold aim scripts.now found.new.witnesses.items) }
-    ensures within { IfOk result (λ e. e.states ≤ limit) }
-    ensures full { IfOk result (λ e. e.is_whole ≡ false → e.states ≡ limit) }
+    requires found { IsNoted scripts.now found }
+    ensures found { IfOk result (λ s. IsNoted scripts.now s.found) }
+    ensures more_found { IfOk result (λ s. IsLonger found.witnesses.items s.found.witnesses.items) }
+    ensures more { IfOk result (λ s. IsNoLess found.reached.items s.found.reached.items) }
+    ensures met { IfOk result (λ s. AreAllMet scripts.now s.found.reached.items s.states) }
+    ensures complete { IfOk result (λ s. s.is_whole ≡ true → AllTold aim scripts.now s.found.witnesses.items) }
+    ensures within { IfOk result (λ s. s.states ≤ limit) }
+    ensures full { IfOk result (λ s. s.is_whole ≡ false → s.states ≡ limit) }
 {
-    let mut met = Met {
+    let met = Met {
+        alloc,
+        scripts,
         states: Vec::new(alloc),
         keys: IndexSet::new(alloc),
         limit,
+        is_whole: true,
     };
-    let opening = Course::opening(alloc, scripts.len() as u16)?;
-    let calm = calmed(aim, opening, scripts)?;
-    reach(&mut found.reached, scripts, &calm);
-    let key = state_key(&calm, alloc, scripts.len() as u16, false)?;
-    let is_placed = place(alloc, scripts, &calm, key, &mut met)?;
-    let is_closed = expand_all(aim, alloc, scripts, &mut met, found)?;
-    Ok(extent_of(met.keys.len(), is_placed, is_closed))
+    let mut search = Search { aim, met, found };
+    search.keep(Course::opening(alloc, scripts.len() as u16)?)?;
+    let mut at = 0;
+    while at < search.met.states.len() {
+        let course = search.met.states[at].course(alloc)?;
+        search.expand(&course)?;
+        at += 1;
+    }
+    Ok(Searched {
+        states: search.met.keys.len(),
+        is_whole: search.met.is_whole,
+        found: search.found,
+    })
 }

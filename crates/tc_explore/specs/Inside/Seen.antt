@@ -1,9 +1,10 @@
 -- The states that a search has seen.
 use Rattle.std.specs.Prelude.{ℕ, ◌⊎◌, List, ◌∷◌, ◌≡◌, true, false, ◌<◌, length, slice_index_or, ◌≤◌, ◌&&◌, nat_le, ◌-◌, if◌then◌else◌, Bool, Option, None, Some, [], ◌++◌, map, slice_get, All}
+use Rattle.tc_entry.specs.declared.limits.TheConstants.{BEHAVIOURS}
 use Rattle.tc_rules.specs.Prelude.{Entry, local_if_any, is_active, Run, Verdict, level_of, Op, is_fault, Case, past_of, is_over, overall, answer, entry_made}
 use Rattle.tc_step.specs.Prelude.{ScriptView}
 use Rattle.tc_course.specs.{declared.witness.Witness.Witness, Prelude.{carried_on, IsTurn, IsCourse, CannotGo, AreWitnesses, AllFound, IsWitness, is_found, stand, goes_on, IsOn}}
-use Rattle.tc_explore.specs.{Found.{AreAllMet, AreCovered, AreReached, Covers}, Inside.{Simulation.{IsAlike, IsClosed, IsClosedFor, IsCovered, IsFor, IsWithin, is_silent, is_spent}, Twins.{AreKeyed, key_of}}, declared.{findings.Findings.Findings, search.{Extent.Extent, Met.Met}}}
+use Rattle.tc_explore.specs.{Found.{AreAllMet, AreCovered, AreReached, Covers}, Inside.{Simulation.{IsAlike, IsClosed, IsClosedFor, IsCovered, IsFor, IsWithin, is_silent, is_spent}, Twins.{AreKeyed, IsKnown, key_of}}, declared.{findings.Findings.Findings, search.{Met.Met, Search.Search, Searched.Searched}}}
 
 -- the next call of run b is made, if it can continue
 abbrev pub IsStepped : List ScriptView → List Entry → List Entry → ℕ → Type 0
@@ -82,12 +83,14 @@ pub record IsState (aim : Verdict) (scripts : List ScriptView) (t : Case) : Type
 abbrev pub IsFull : Met → Type 0
 IsFull met = met.limit ≤ length met.states.items
 
--- the states that a search has met: at most its limit, and each run's calls in them are counted
-pub record AreKept (aim : Verdict) (scripts : List ScriptView) (met : Met) (found : Findings) : Type 0 where
-  pub few : length met.states.items ≤ met.limit
-  pub each : All (λ t. IsState aim scripts t) met.states.items
-  pub keyed : AreKeyed (key_of false (length scripts)) met
-  pub counted : All (λ t. Covers found.reached.items (past_of t)) met.states.items
+-- the states that a search has met: each of this kind, with its key; at most its limit, and as many if one was left out
+pub record AreMet (all : Bool) (Fits : Case → Type 0) (met : Met) : Type 0 where
+  pub some : 1 ≤ length met.scripts.now
+  pub few : length met.scripts.now ≤ BEHAVIOURS
+  pub within : length met.states.items ≤ met.limit
+  pub each : All Fits met.states.items
+  pub keyed : AreKeyed (key_of all (length met.scripts.now)) met
+  pub full : met.is_whole ≡ false → IsFull met
 
 -- a case of as many behaviours and of the same entries
 pub record IsSameCase (t u : Case) : Type 0 where
@@ -97,6 +100,17 @@ pub record IsSameCase (t u : Case) : Type 0 where
 -- the states are these, or that of this case more
 abbrev pub IsWith : List Case → Case → List Case → Type 0
 IsWith before t after = (after ≡ before) ⊎ ((u : Case) × IsSameCase t u × (after ≡ before ++ u ∷ []))
+
+-- the state of this case is taken in, unless its key is known, or as many as the limit are met
+pub record IsPlaced (all : Bool) (t : Case) (before after : Met) : Type 0 where
+  pub scripts : after.scripts.now ≡ before.scripts.now
+  pub limit : after.limit ≡ before.limit
+  pub states : IsWith before.states.items t after.states.items
+  pub within : length before.states.items ≤ before.limit → length after.states.items ≤ before.limit
+  pub whole : after.is_whole ≡ true → before.is_whole ≡ true
+  pub full : after.is_whole ≡ false → (before.is_whole ≡ false) ⊎ IsFull before
+  pub keyed : AreKeyed (key_of all (length before.scripts.now)) before → AreKeyed (key_of all (length before.scripts.now)) after
+  pub known : AreKeyed (key_of all (length before.scripts.now)) before → after.is_whole ≡ true → IsKnown (key_of all (length before.scripts.now)) after.states.items (past_of t)
 
 -- there are as many numbers, and none is less
 pub record IsNoLess (before after : List ℕ) : Type 0 where
@@ -130,56 +144,64 @@ abbrev pub run_at : Bool → ℕ → ℕ → ℕ
 run_at true n k = n - 1 - k
 run_at false n k = k
 
--- one of these states is that after r
-abbrev pub IsSeen : List Case → List Entry → Type 0
-IsSeen states r = (i : ℕ) × (t : Case) × (slice_get states i ≡ Some t) × IsSame r (past_of t)
+-- if none was left out one of the states is that after r
+abbrev pub IsSeen : Met → List Entry → Type 0
+IsSeen met r = met.is_whole ≡ true → (i : ℕ) × (t : Case) × (slice_get met.states.items i ≡ Some t) × IsSame r (past_of t)
 
 -- what was found so far: witnesses, and how many calls each run carries out in some course, in these at least
 abbrev pub IsNoted : List ScriptView → Findings → Type 0
 IsNoted scripts f = AreNoted scripts f.witnesses.items × AreReached scripts f.reached.items × AreCovered f.reached.items f.witnesses.items
 
 -- what the searches up to each aim have found, and how far they went
-pub record IsSearched (scripts : List ScriptView) (limit : ℕ) (found : Findings) (e : Extent) : Type 0 where
-  pub noted : IsNoted scripts found
-  pub met : AreAllMet scripts found.reached.items e.states
-  pub complete : e.is_whole ≡ true → AllFound scripts found.witnesses.items
-  pub within : e.states ≤ limit
-  pub full : e.is_whole ≡ false → e.states ≡ limit
+pub record IsSearched (scripts : List ScriptView) (limit : ℕ) (s : Searched) : Type 0 where
+  pub noted : IsNoted scripts s.found
+  pub met : AreAllMet scripts s.found.reached.items s.states
+  pub complete : s.is_whole ≡ true → AllFound scripts s.found.witnesses.items
+  pub within : s.states ≤ limit
+  pub full : s.is_whole ≡ false → s.states ≡ limit
 
 -- there may be more after it
 abbrev pub IsLonger : {A : Type 0} → List A → List A → Type 0
 IsLonger {A} before after = (more : List A) × (after ≡ before ++ more)
+
+-- there may be more states, and if none is left out none was
+pub record IsMetFurther (before after : Met) : Type 0 where
+  pub scripts : after.scripts.now ≡ before.scripts.now
+  pub limit : after.limit ≡ before.limit
+  pub states : IsLonger before.states.items after.states.items
+  pub whole : after.is_whole ≡ true → before.is_whole ≡ true
+
+-- a search for verdicts: what it has found is so, and the calls of each run in its states are counted
+pub record IsSearch (s : Search) : Type 0 where
+  pub met : AreMet false (λ t. IsState s.aim s.met.scripts.now t) s.met
+  pub found : IsNoted s.met.scripts.now s.found
+  pub counted : All (λ t. Covers s.found.reached.items (past_of t)) s.met.states.items
+
+-- it goes on: what it has met and found stays so
+pub record IsFurther (before after : Search) : Type 0 where
+  pub search : IsSearch after
+  pub aim : after.aim ≡ before.aim
+  pub met : IsMetFurther before.met after.met
+  pub witnesses : IsLonger before.found.witnesses.items after.found.witnesses.items
+  pub reached : IsNoLess before.found.reached.items after.found.reached.items
 
 -- the one continues the other, or is it, and whatever the other represents, it does
 pub record StandsOn (aim : Verdict) (scripts : List ScriptView) (before after : Case) : Type 0 where
   pub further : (more : List Entry) × (past_of after ≡ more ++ past_of before)
   pub stands : (p : List Entry) → IsCourse scripts p → IsFor aim scripts (past_of before) p → IsFor aim scripts (past_of after) p
 
--- after this entry the verdict is found, or the state is seen, unless its verdict is worse than is looked for
-pub record IsAfter (aim : Verdict) (scripts : List ScriptView) (states : List Case) (found : List Witness) (q : List Entry) (e : Entry) : Type 0 where
-  pub over : is_over (e ∷ q) ≡ true → is_found found (overall (e ∷ q)) ≡ true
-  pub more : is_over (e ∷ q) ≡ false → IsWithin aim (e ∷ q) → IsCovered aim scripts (IsSeen states) (e ∷ q)
-
 -- what each call of run b leads to is seen, or its verdict is found
-abbrev pub IsRunClosed : Verdict → List ScriptView → List Case → List Witness → List Entry → ℕ → Type 0
-IsRunClosed aim scripts states found q b = (e : Entry) → e.caller.0 ≡ b → IsTurn scripts q e → goes_on e.reply ≡ true → IsClosedFor aim scripts (IsSeen states) found q e
+abbrev pub IsRunClosed : Search → List Entry → ℕ → Type 0
+IsRunClosed s q b =
+    (e : Entry) → e.caller.0 ≡ b → IsTurn s.met.scripts.now q e → goes_on e.reply ≡ true → IsClosedFor s.aim s.met.scripts.now (IsSeen s.met) s.found.witnesses.items q e
 
--- after this call the verdict is found, or the state is seen
-abbrev pub IsCallClosed : Verdict → List ScriptView → Met → Findings → Case → Run → Op → Type 0
-IsCallClosed aim scripts met found t run op =
-    IsAfter aim scripts met.states.items found.witnesses.items (past_of t) (entry_made t.behaviours (past_of t) run op)
+-- whatever comes after q is one of its states, or its verdict is found
+abbrev pub IsClosedFrom : Search → List Entry → Type 0
+IsClosedFrom s q = IsClosed s.aim s.met.scripts.now (IsSeen s.met) s.found.witnesses.items q
 
--- so it is after each call of n runs of a case
-abbrev pub AreRunsClosed : Verdict → List ScriptView → Met → Findings → Case → ℕ → Type 0
-AreRunsClosed aim scripts met found t n = (b : ℕ) → b < n → IsRunClosed aim scripts met.states.items found.witnesses.items (past_of t) b
-
--- whatever comes after the state at this place is one of them, or its verdict is found
-abbrev pub IsClosedAt : Verdict → List ScriptView → List Case → List Witness → ℕ → Type 0
-IsClosedAt aim scripts states found i = (t : Case) → slice_get states i ≡ Some t → IsClosed aim scripts (IsSeen states) found (past_of t)
-
--- whatever comes after one of these states is one of them, or its verdict is found
-abbrev pub AreClosed : Verdict → List ScriptView → List Case → List Witness → Type 0
-AreClosed aim scripts states found = (i : ℕ) → IsClosedAt aim scripts states found i
+-- so it is of each of its first n states
+abbrev pub AreClosed : Search → ℕ → Type 0
+AreClosed s n = (i : ℕ) → i < n → (t : Case) → slice_get s.met.states.items i ≡ Some t → IsClosedFrom s (past_of t)
 
 -- a verdict that is found is as bad as that of the course, and no worse than is looked for
 abbrev pub IsToldBy : Verdict → List Witness → Verdict → Type 0

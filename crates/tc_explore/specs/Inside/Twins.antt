@@ -79,12 +79,6 @@ AreKeyed of met = map (λ k. k.items) met.keys.keys ≡ map (λ t. of (past_of t
 abbrev pub IsKnown : (List Entry → List ℕ) → List Case → List Entry → Type 0
 IsKnown of states r = (i : ℕ) × (t : Case) × (slice_get states i ≡ Some t) × (of r ≡ of (past_of t))
 
--- the states that a search has met, at most its limit
-pub record AreGoing (scripts : List ScriptView) (met : Met) : Type 0 where
-  pub few : length met.states.items ≤ met.limit
-  pub each : All (IsGoing scripts) met.states.items
-  pub keyed : AreKeyed (key_of true (length scripts)) met
-
 -- what is found stays so
 abbrev pub IsMore : List Bool → List Bool → Type 0
 IsMore before after = (i : ℕ) → slice_index_or before i false ≡ true → slice_index_or after i false ≡ true
@@ -104,30 +98,3 @@ HasLocal found past c = (v : Verdict) → local_if_any past c ≡ Some v → is_
 -- so it is of all
 abbrev pub HasLocals : List Bool → List Entry → Type 0
 HasLocals found past = (c : ℕ) → HasLocal found past c
-
--- one of these states is that after r
-abbrev pub IsTwinSeen : List Case → List Entry → Type 0
-IsTwinSeen states r = (i : ℕ) × (t : Case) × (slice_get states i ≡ Some t) × IsTwin (past_of t) r
-
--- after this course the local verdicts are found, or the state is seen
-pub record IsLocalsAfter (states : List Case) (found : List Bool) (r : List Entry) : Type 0 where
-  pub over : is_over r ≡ true → HasLocals found r
-  pub more : is_over r ≡ false → IsTwinSeen states r
-
--- so it is after the next call of run b, if it continues
-abbrev pub IsLocalsRun : List ScriptView → List Case → List Bool → List Entry → ℕ → Type 0
-IsLocalsRun scripts states found q b =
-    (e : Entry) → e.caller.0 ≡ b → IsTurn scripts q e → is_active q b ≡ true → IsLocalsAfter states found (e ∷ q)
-
--- so it is of each of n runs
-abbrev pub AreLocalsRuns : List ScriptView → List Case → List Bool → List Entry → ℕ → Type 0
-AreLocalsRuns scripts states found q n = (b : ℕ) → b < n → IsLocalsRun scripts states found q b
-
--- so it is of each run of the state at this place
-abbrev pub IsLocalsAt : List ScriptView → List Case → List Bool → ℕ → Type 0
-IsLocalsAt scripts states found i =
-    (t : Case) → slice_get states i ≡ Some t → IsGoing scripts t × AreLocalsRuns scripts states found (past_of t) (length scripts)
-
--- so it is of each state
-abbrev pub AreLocalsClosed : List ScriptView → List Case → List Bool → Type 0
-AreLocalsClosed scripts states found = (i : ℕ) → IsLocalsAt scripts states found i

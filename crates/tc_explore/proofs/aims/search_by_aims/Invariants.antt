@@ -3,12 +3,13 @@ use Rattle.tc_rules.specs.Prelude.{level_of}
 use Rattle.tc_explore.specs.{Found.AreAllMet, Inside.Seen.{AreFoundAbove, IsNoted}}
 use Rattle.tc_explore.proofs.aims.search_by_aims.Given as goal
 
-abbrev pub invariant-loop-extent : goal.invariant-loop-extent
-invariant-loop-extent l =
-    IsNoted l.scripts l.found
-    × AreFoundAbove l.aim l.scripts l.found.witnesses.items
-    × AreAllMet l.scripts l.found.reached.items l.states
-    × (l.states ≤ l.limit)
+abbrev pub invariant-loop-searched : goal.invariant-loop-searched
+invariant-loop-searched l = record {
+  noted : IsNoted l.scripts l.found;
+  above : AreFoundAbove l.aim l.scripts l.found.witnesses.items;
+  met : AreAllMet l.scripts l.found.reached.items l.states;
+  within : l.states ≤ l.limit;
+}
 
-abbrev pub decreases-loop-extent : goal.decreases-loop-extent
-decreases-loop-extent l = level_of l.aim
+abbrev pub decreases-loop-searched : goal.decreases-loop-searched
+decreases-loop-searched l = level_of l.aim

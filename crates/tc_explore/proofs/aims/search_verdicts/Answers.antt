@@ -4,7 +4,7 @@ use Rattle.tc_explore.proofs.aims.search_verdicts.Goals as goal
 
 pub returns-clause-searched : goal.returns-clause-searched
 returns-clause-searched c =
-    let is = c.in_ok-extent.ensures.searched in
+    let is = c.in_ok-searched.ensures.searched in
     let moved = c.order.ensures.same in
     record {
       noted = (noted_moved c.args.scripts.now _ _ moved is.noted.0, is.noted.1, covered_moved _ _ _ moved is.noted.2);
@@ -16,8 +16,8 @@ returns-clause-searched c =
 
 pub returns-clause-ordered : goal.returns-clause-ordered
 returns-clause-ordered c =
-    let noted = noted_moved c.args.scripts.now _ _ c.order.ensures.same c.in_ok-extent.ensures.searched.noted.0 in
+    let noted = noted_moved c.args.scripts.now _ _ c.order.ensures.same c.in_ok-searched.ensures.searched.noted.0 in
     from_best _ c.order.ensures.ordered noted.once
 
 pub returns-clause-told : goal.returns-clause-told
-returns-clause-told c h = let size = length_permutation _ _ c.order.ensures.same in let some = c.in_ok-extent.ensures.told h in omega (arith, size, some)
+returns-clause-told c h = let size = length_permutation _ _ c.order.ensures.same in let some = c.in_ok-searched.ensures.told h in omega (arith, size, some)

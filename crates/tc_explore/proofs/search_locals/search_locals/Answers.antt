@@ -1,44 +1,63 @@
-use Rattle.std.proofs.Common.{rules, ◌≡◌, ◌≤◌, ◌∙◌, false, length, ap, subst, sym, true}
-use Rattle.tc_course.proofs.Lemmas.{turn_rules}
-use Rattle.tc_rules.specs.Prelude.{past_of}
-use Rattle.tc_explore.{specs.{Inside.Twins.{IsGoing, IsTwinSeen, key_of}, declared.search.Met.Met}, proofs.{Kept.{as_many_keys, keyed_none}, LocalsClosed.{all_locals_found, courses_met, going_none, going_with, opening_rules}, Room.{all_met, few_met, whole}, Seeing.known_longer, TwinKeys.seen_by_twin_key}}
+use Rattle.std.proofs.Common.{rules, ◌≡◌, ◌+◌, ◌<◌, ◌≤◌, ◌∙◌, [], true, length, refl, ap, sym, subst, arith}
+use Rattle.tc_rules.specs.Prelude.{past_of, is_over}
+use Rattle.tc_course.{specs.Prelude.IsOn, proofs.Lemmas.turn_rules}
+use Rattle.tc_explore.{specs.{Found.{AllLocalsFound, AreLocals, HasCourses}, Inside.{Locals.{AreLocalsRuns, IsTwinSeen}}, declared.search_locals.LocalSearch.LocalSearch}, proofs.{Kept.{met_full, met_within}, LocalsClosed.{all_locals_found, courses_met, local_none, local_placed, locals_more, twin_further}}}
 use Rattle.tc_explore.proofs.search_locals.search_locals.Goals as goal
 
-pub expand_all-requires-clause-kept : goal.expand_all-requires-clause-kept
-expand_all-requires-clause-kept c =
-    let met : Met = record { states = c.new.result; keys = c.new-2.result; limit = c.args.limit } in
-    let key = key_of true (length c.args.scripts.now) in
-    let keyed = keyed_none key met c.new.ensures.items c.new-2.ensures.empty in
-    let none = going_none c.args.scripts.now met c.new.ensures.items keyed in
-    let is = c.in_ok-is_placed.ensures in
-    let state : IsGoing c.args.scripts.now c.in_ok-opening.opening = search (rules, turn_rules, opening_rules) in
-    going_with c.args.scripts.now met c.place.new.met c.in_ok-opening.opening none state is.with_it (is.keyed key c.in_ok-key.ensures keyed) is.limit (is.within none.few)
+pub loop-at-init : goal.loop-at-init
+loop-at-init c =
+    let opening = c.in_ok-opening.field-0 in
+    let z : LocalSearch = record { met = record { alloc = c.args.alloc; scripts = c.args.scripts; states = c.new.result; keys = c.new-2.result; limit = c.args.most.states; is_whole = true }; marks = c.new-3.result } in
+    let none = local_none z c.requires.some c.requires.few c.new.ensures.items c.new-2.ensures.empty refl c.new-3.ensures in
+    let on : IsOn c.args.scripts.now c.in_ok-opening.field-0 = search (rules, turn_rules) in
+    let one = local_placed z opening c.place-2.new.self none (record { on = on; going = ap is_over c.in_ok-opening.ensures.opening }) c.in_ok-place.ensures in
+    record {
+      search = one.0.search;
+      scripts = one.0.met.scripts;
+      limit = one.0.met.limit;
+      seen = subst (IsTwinSeen c.place-2.new.self) c.in_ok-opening.ensures.opening one.1;
+      closed = λ i less. absurd (omega arith);
+    }
+
+pub loop-at-preserved : goal.loop-at-preserved
+loop-at-preserved c =
+    let was = c.loop-at.invariant in
+    let is = c.in_ok-expand.ensures in
+    let f = is.further in
+    let within : c.loop-at.at < length c.loop-at.search.met.states.items = search rules in
+    record {
+      search = f.search;
+      scripts = f.met.scripts ∙ was.scripts;
+      limit = f.met.limit ∙ was.limit;
+      seen = twin_further c.loop-at.search.met c.expand.new.self.met [] f.met was.seen;
+      closed = locals_more c.loop-at.search c.expand.new.self c.loop-at.at c.in_ok-course.course c.index.result.now f within c.in_ok-course.ensures.entries c.index.ensures was.closed
+          (subst (λ sc. AreLocalsRuns c.expand.new.self (past_of c.in_ok-course.course) (length sc)) (sym f.met.scripts) is.closed);
+    }
+
+pub returns-clause-sound : goal.returns-clause-sound
+returns-clause-sound c =
+    rw c.new-4.ensures (subst (λ sc. AreLocals sc c.loop-at.search.marks.found.items) c.loop-at.invariant.scripts c.loop-at.invariant.search.sound)
 
 pub returns-clause-complete : goal.returns-clause-complete
 returns-clause-complete c h =
-    let both = whole c.in_ok-is_placed.is_placed c.in_ok-is_closed.is_closed (sym (ap (λ e. e.is_whole) c.extent_of.ensures) ∙ h) in
-    let met : Met = record { states = c.new.result; keys = c.new-2.result; limit = c.args.limit } in
-    let key = key_of true (length c.args.scripts.now) in
-    let known = c.in_ok-is_placed.ensures.known both.0 key c.in_ok-key.ensures (keyed_none key met c.new.ensures.items c.new-2.ensures.empty) in
-    let state : IsGoing c.args.scripts.now c.in_ok-opening.opening = search (rules, turn_rules, opening_rules) in
-    let states = c.expand_all.new.met.states.items in
-    let kept = c.in_ok-is_closed.ensures.kept in
-    let seen = seen_by_twin_key c.args.scripts.now states c.in_ok-opening.opening c.requires.some state kept.each (known_longer key c.place.new.met.states.items states (past_of c.in_ok-opening.opening) c.in_ok-is_closed.ensures.more_states known) in
-    all_locals_found c.args.scripts.now states c.expand_all.new.marks.found.items c.requires.some (c.in_ok-is_closed.ensures.closed both.1) (subst (IsTwinSeen states) c.in_ok-opening.ensures.opening seen)
+    let z = c.loop-at.search in
+    let was = c.loop-at.invariant in
+    let ended : length c.loop-at.search.met.states.items ≤ c.loop-at.at = search rules in
+    rw c.new-4.ensures (subst (λ sc. AllLocalsFound sc c.loop-at.search.marks.found.items) was.scripts (all_locals_found z was.search (c.ending_of.ensures.whole h) (λ i near. was.closed i (omega (arith, near, ended))) was.seen))
 
 pub returns-clause-met : goal.returns-clause-met
-returns-clause-met c = rw (ap (λ e. e.states) c.extent_of.ensures ∙ c.len.ensures.len) (courses_met c.args.scripts.now c.expand_all.new.met c.in_ok-is_closed.ensures.kept c.len.ensures.unique)
+returns-clause-met c =
+    let was = c.loop-at.invariant in
+    rw c.len-2.ensures.len (subst (λ sc. HasCourses sc (length c.loop-at.search.met.keys.keys)) was.scripts (courses_met c.loop-at.search was.search c.len-2.ensures.unique))
 
 pub returns-clause-within : goal.returns-clause-within
 returns-clause-within c =
-    let kept = c.in_ok-is_closed.ensures.kept in
-    few_met _ _ _ _ _ (ap (λ e. e.states) c.extent_of.ensures ∙ c.len.ensures.len) (as_many_keys (key_of true (length c.args.scripts.now)) c.expand_all.new.met kept.keyed) kept.few
-    (c.in_ok-is_closed.ensures.limit ∙ c.in_ok-is_placed.ensures.limit)
+    let was = c.loop-at.invariant in
+    let most = met_within true _ c.loop-at.search.met was.search.met in
+    omega (arith, most, c.len-2.ensures.len, was.limit)
 
-pub returns-clause-full : goal.returns-clause-full
-returns-clause-full c h =
-    let kept = c.in_ok-is_closed.ensures.kept in
-    let none : c.in_ok-is_placed.is_placed ≡ false → c.args.limit ≤ 0 = λ off. subst (λ l. c.args.limit ≤ length l) c.new.ensures.items (c.in_ok-is_placed.ensures.full off) in
-    all_met _ _ _ _ _ c.in_ok-is_placed.is_placed c.in_ok-is_closed.is_closed (ap (λ e. e.states) c.extent_of.ensures ∙ c.len.ensures.len) (as_many_keys (key_of true (length c.args.scripts.now)) c.expand_all.new.met kept.keyed) kept.few
-    (c.in_ok-is_closed.ensures.limit ∙ c.in_ok-is_placed.ensures.limit) none c.in_ok-is_closed.ensures.full
-    (sym (ap (λ e. e.is_whole) c.extent_of.ensures) ∙ h)
+pub returns-clause-undecided : goal.returns-clause-undecided
+returns-clause-undecided c m h =
+    let was = c.loop-at.invariant in
+    let part = c.ending_of.ensures.part m h in
+    (c.len-2.ensures.len ∙ (met_full true _ c.loop-at.search.met was.search.met part.0 ∙ was.limit), part.1)
