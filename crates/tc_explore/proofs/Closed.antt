@@ -72,10 +72,11 @@ still_held scripts q b held = λ e own t on. let off : goes_on e.reply ≡ false
 
 -- in a state a call that continues is an error, or changes something; after it the verdict is found, or the state is seen,
 -- unless its verdict is worse than is looked for
-pub run_closed : (s : Search) (t u : Case) (run : Run) (op : Op) → IsState s.aim s.met.scripts.now t → run.0 < length s.met.scripts.now → IsTurn s.met.scripts.now (past_of t) (entry_made t.behaviours (past_of t) run op) →
-    goes_on (answer t.behaviours (past_of t) run.0 op) ≡ true → past_of u ≡ entry_made t.behaviours (past_of t) run op ∷ past_of t → (is_over (past_of u) ≡ true → is_found s.found.witnesses.items (overall (past_of u)) ≡ true) →
+pub run_closed : (s : Search) (t copy u : Case) (run : Run) (op : Op) → IsState s.aim s.met.scripts.now t → run.0 < length s.met.scripts.now → IsTurn s.met.scripts.now (past_of t) (entry_made t.behaviours (past_of t) run op) →
+    goes_on (answer t.behaviours (past_of t) run.0 op) ≡ true → copy.behaviours ≡ t.behaviours → copy.history ≡ t.history → past_of u ≡ entry_made copy.behaviours (past_of copy) run op ∷ past_of copy → (is_over (past_of u) ≡ true → is_found s.found.witnesses.items (overall (past_of u)) ≡ true) →
     (is_over (past_of u) ≡ false → IsWithin s.aim (past_of u) → IsCovered s.aim s.met.scripts.now (IsSeen s.met) (past_of u)) → IsRunClosed s (past_of t) run.0
-run_closed s t u run op state near turn goes is over more = λ e own h on.
+run_closed s t copy u run op state near turn goes same_number same_entries is_next over more = λ e own h on.
+    let is = with_copied t copy u run op same_number same_entries is_next in
     let d = entry_made t.behaviours (past_of t) run op in
     let same : d ≡ e = sym (same_entry s.met.scripts.now (past_of t) e d h turn own) in
     subst (λ x. IsClosedFor s.aim s.met.scripts.now (IsSeen s.met) s.found.witnesses.items (past_of t) x) same (record {

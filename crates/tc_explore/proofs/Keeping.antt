@@ -4,7 +4,7 @@ use Rattle.std.proofs.{lemmas.Bool.{and_parts, not-true, or_from, or_parts, true
 use Rattle.tc_rules.{specs.Prelude.{Run, Comp, Entry, Op, Reply, is_ended, is_fault, Case, past_of, comp_of, started_on, first_some, is_comp, is_finish, is_stop_of, is_kill_of, is_stop_case, halts, ends_case, ends_pass, is_over, phase, answer, is_active, is_active_on, is_run_of, IsLegal, Verdict, overall, gives, local, level_of, Phase, entry_made}, proofs.Lemmas.{Deciding.{equal_if, if_same}, Going.halted_by_entry, Sound.plain_if, Decided.overall_more}}
 use Rattle.tc_step.specs.Prelude.{ScriptView}
 use Rattle.tc_course.{specs.{Prelude.{CourseState, stand, goes_on, after_other_by, IsTurn, IsCourse, IsOn}, Inside.ends}, proofs.Lemmas.{below_more, course_legal, has_turn, stand_own, stand_other, stand_comp, stand_unstarted}}
-use Rattle.tc_explore.{specs.Inside.{Seen.{HasNoWake, IsCalm, IsCalmAfter, IsCalmAt, IsOpen, IsState}, Simulation.{IsSilent, IsWithin}}, proofs.{Alike.ChangesNothing, Closing.{answer_inactive, loud_sets_no_wake, not_ended}, Felling.felling_halts, Late.{halt_overall, late_halts, late_reply, met_for, HaltsOne, late_for}, Leaving.running_on, Places.{Spent, how_spent, kept_left, wake_after}, Simulation.{quiet_within, unchanged_quiet, unchanged_wait, wait_kept}, Ahead.on_not_ended}}
+use Rattle.tc_explore.{specs.Inside.{Seen.{HasNoWake, IsCalm, IsOpen, IsState}, Simulation.{IsSilent, IsWithin}}, proofs.{Alike.ChangesNothing, Closing.{answer_inactive, loud_sets_no_wake, not_ended}, Felling.felling_halts, Late.{halt_overall, late_halts, late_reply, met_for, HaltsOne, late_for}, Leaving.running_on, Places.{Spent, how_spent, kept_left, wake_after}, Simulation.{quiet_within, unchanged_quiet, unchanged_wait, wait_kept}, Ahead.on_not_ended}}
 
 -- ---- one more entry
 
@@ -111,25 +111,10 @@ within_opening aim t none = rw none (omega arith)
 
 pub ruleset keeping_rules = (on_open, open_state, on_state, open_same, state_same, within_state, within_same, within_opening)
 
-pub ruleset call_rules = (on_open)
-
 -- ---- no call is left of which nobody can see that it was made
-
--- a course that is as long as it was, and one more of which so it is
-pub calm_then : (scripts : List ScriptView) (t u v : Case) (b : ℕ) → past_of u ≡ past_of t → IsCalmAfter scripts u v b → IsCalmAfter scripts t v b
-calm_then scripts t u v b same h = (h.0 ∙ same, subst (λ p. IsCalmAt scripts p b) same h.1)
-
--- after the calls of k runs the course is as long as it was, and none of them has such a call
-abbrev pub AreCalmAfter : List ScriptView → Case → Case → ℕ → Type 0
-AreCalmAfter scripts t v k = (past_of v ≡ past_of t) × ((b : ℕ) → b < k → IsCalmAt scripts (past_of t) b)
-
-pub calm_more : (scripts : List ScriptView) (t u v : Case) (k : ℕ) → AreCalmAfter scripts t u k → IsCalmAfter scripts u v k → AreCalmAfter scripts t v (k + 1)
-calm_more scripts t u v k h last = (last.0 ∙ h.0, below_more (IsCalmAt scripts (past_of t)) k h.1 (subst (λ p. IsCalmAt scripts p k) h.0 last.1))
 
 pub state_of : {aim : Verdict} (scripts : List ScriptView) (t : Case) → IsOpen scripts t → IsCalm scripts (past_of t) → IsWithin aim (past_of t) → IsState aim scripts t
 state_of scripts t o calm within = record { opened = o; calm = calm; within = within }
-
-pub ruleset calm_rules = (calm_then, state_of)
 
 -- ---- runs that continue
 

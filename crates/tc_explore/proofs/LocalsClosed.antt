@@ -6,7 +6,7 @@ use Rattle.tc_entry.specs.declared.limits.TheConstants.{BEHAVIOURS}
 use Rattle.tc_rules.{specs.Prelude.{Run, level_of, Comp, Entry, Op, Case, past_of, ends_case, is_over, is_active, Reply, entry_made}, proofs.Lemmas.Over.all_over}
 use Rattle.tc_step.specs.Prelude.{ScriptView}
 use Rattle.tc_course.{specs.{Prelude.{stand, steps_of, turn, IsTurn, IsCourse, IsComplete, IsOn, CannotGo, is_local}, Inside.call_of}, proofs.Lemmas.{below_more, course_legal, run_in_range, stand_comp, turn_of}}
-use Rattle.tc_explore.{specs.{Found.{AllLocalsFound, AreLocals, HasCourses}, Inside.{Locals.{AreLocalsClosed, AreLocalsRuns, IsLocalFurther, IsLocalSearch, IsLocalsAfter, IsLocalsRun, IsTwinSeen}, Seen.{IsMetFurther, IsPlaced, IsSameCase}, Twins.{HasLocals, IsGoing, IsMore, IsTwin, key_of}}, declared.{marks.Marks.Marks, search.Met.Met, search_locals.LocalSearch.LocalSearch}}, proofs.{Alike.active_alike, Closed.same_entry, Closing.answer_inactive, Keeping.{active_stays, comp_main, main_goes}, Kept.{all_with, are_none, courses_of, no_courses, placed_further, placed_met}, LastCalls.locals_ended, Marking.none_sound, Seeing.{at_longer, get_longer, met_self, met_then}, Simulation.some_if, TwinKeys.seen_by_twin_key, Twins.{locals_twin, matched, twin_ended, twin_then}}}
+use Rattle.tc_explore.{specs.{Found.{AllLocalsFound, AreLocals, HasCourses}, Inside.{Locals.{AreLocalsClosed, AreLocalsRuns, IsLocalFurther, IsLocalSearch, IsLocalsAfter, IsLocalsRun, IsTwinSeen}, Seen.{IsMetFurther, IsPlaced, IsSameCase}, Twins.{HasLocals, IsGoing, IsMore, IsTwin, key_of}}, declared.{marks.Marks.Marks, search.Met.Met, search_locals.LocalSearch.LocalSearch}}, proofs.{Alike.active_alike, Closed.{on_copied, same_entry, with_copied}, Closing.answer_inactive, Keeping.{active_stays, comp_main, main_goes}, Kept.{all_with, are_none, courses_of, no_courses, placed_further, placed_met}, LastCalls.locals_ended, Marking.none_sound, Seeing.{at_longer, get_longer, met_self, met_then}, Simulation.some_if, TwinKeys.seen_by_twin_key, Twins.{locals_twin, matched, twin_ended, twin_then}}}
 
 -- ---- all courses
 
@@ -113,19 +113,10 @@ locals_more a b n u v h within same at closed last = below_more (λ i. (t : Case
 
 -- ---- one call
 
-pub locals_off : (z : LocalSearch) (q : List Entry) (b : ℕ) → is_active q b ≡ false → IsLocalsRun z q b
-locals_off z q b off = λ e own t act. absurd cc
-
-pub locals_cannot : (z : LocalSearch) (q : List Entry) (b : ℕ) → CannotGo z.met.scripts.now q b → IsLocalsRun z q b
-locals_cannot z q b cannot = λ e own t act. absurd (cannot e own t)
-
-pub locals_run : (z : LocalSearch) (n : ℕ) (q : List Entry) (run : Run) (op : Op) → IsTurn z.met.scripts.now q (entry_made n q run op) → IsLocalsAfter z (entry_made n q run op ∷ q) → IsLocalsRun z q run.0
+locals_run : (z : LocalSearch) (n : ℕ) (q : List Entry) (run : Run) (op : Op) → IsTurn z.met.scripts.now q (entry_made n q run op) → IsLocalsAfter z (entry_made n q run op ∷ q) → IsLocalsRun z q run.0
 locals_run z n q run op t after = λ e own h act. subst (λ x. IsLocalsAfter z (x ∷ q)) (sym (same_entry z.met.scripts.now q e (entry_made n q run op) h t own)) after
 
 -- ---- states
-
-pub going_on : (scripts : List ScriptView) (t : Case) → IsGoing scripts t → IsOn scripts t
-going_on scripts t g = g.on
 
 pub going_same : (scripts : List ScriptView) (t u : Case) → u.behaviours ≡ t.behaviours → u.history ≡ t.history → IsGoing scripts t → IsGoing scripts u
 going_same scripts t u n h g =
@@ -161,6 +152,24 @@ local_placed z t after is going p = (
     same : (u : Case) → IsSameCase t u → IsGoing z.met.scripts.now t → IsGoing z.met.scripts.now u
     same u one = going_same z.met.scripts.now t u one.behaviours one.entries
 
+-- after the next call of a run
+pub local_next : (z : LocalSearch) (t copy u : Case) (run : Run) (op : Op) (after : Met) → IsLocalSearch z → IsGoing z.met.scripts.now t → IsTurn z.met.scripts.now (past_of t) (entry_made t.behaviours (past_of t) run op) →
+    IsSameCase t copy → u.behaviours ≡ copy.behaviours → past_of u ≡ entry_made copy.behaviours (past_of copy) run op ∷ past_of copy → is_over (past_of u) ≡ false → IsPlaced true u z.met after →
+    IsLocalFurther z (record { met = after; marks = z.marks }) × IsLocalsRun (record { met = after; marks = z.marks }) (past_of t) run.0
+local_next z t copy u run op after search state turn one number is going p = (
+  placed.0,
+  locals_run (record { met = after; marks = z.marks }) t.behaviours (past_of t) run op (rw p.scripts turn) (record {
+    over = λ o. let off = ap is_over (sym added) ∙ going in absurd cc;
+    more = λ o. subst (IsTwinSeen after) added placed.1;
+  }),
+)
+  where
+    added : past_of u ≡ entry_made t.behaviours (past_of t) run op ∷ past_of t
+    added = with_copied t copy u run op one.behaviours one.entries is
+
+    placed : IsLocalFurther z (record { met = after; marks = z.marks }) × IsTwinSeen after (past_of u)
+    placed = local_placed z u after search (record { on = on_copied z.met.scripts.now t copy u run op state.on one.behaviours one.entries number is turn; going = going }) p
+
 pub local_none : (z : LocalSearch) → 1 ≤ length z.met.scripts.now → length z.met.scripts.now ≤ BEHAVIOURS → z.met.states.items ≡ [] → z.met.keys.keys ≡ [] → z.met.is_whole ≡ true → z.marks.found.items ≡ [] → IsLocalSearch z
 local_none z some few none no_key whole nothing = record {
   met = are_none true (IsGoing z.met.scripts.now) z.met some few none no_key whole;
@@ -177,7 +186,3 @@ courses_met z is distinct = (
 -- a search that has met none
 pub courses_none : (scripts : List ScriptView) → HasCourses scripts 0
 courses_none scripts = ([], no_courses scripts)
-
-pub ruleset run_rules = (going_on, locals_off, locals_cannot, local_self)
-
-pub ruleset loop_rules = (going_same)

@@ -106,5 +106,3 @@ pub none_sound : (scripts : List ScriptView) (found : List Bool) → found ≡ [
 none_sound scripts found none c v h =
     let out : is_local found c v ≡ false = ap (λ f. get_or f (c * 5 + level_of v) false) none in
     absurd cc
-
-pub ruleset found_rules = (none_sound)

@@ -105,8 +105,6 @@ above_all scripts f g aim more above told is history v one =
 pub above_error : (scripts : List ScriptView) (found : List Witness) → AreFoundAbove Verdict.Error scripts found
 above_error scripts found v worse gives = let most = at_most_error v in absurd (omega (arith, worse, most))
 
-pub ruleset aim_rules = (above_error)
-
 pub closed_is_complete : (s : Search) → s.met.is_whole ≡ true → 1 ≤ length s.met.scripts.now → IsCovered s.aim s.met.scripts.now (IsSeen s.met) [] →
     ((i : ℕ) (t : Case) → slice_get s.met.states.items i ≡ Some t → IsClosedFrom s (past_of t)) → AllTold s.aim s.met.scripts.now s.found.witnesses.items
 closed_is_complete s whole some start closed v within gives =

@@ -115,5 +115,3 @@ pub ruleset noting_rules = (noted_more, once_none, noted_none)
 -- so is each that was found
 pub witnesses_legal : (scripts : List ScriptView) (found : List Witness) → AreWitnesses scripts found → AreLegal scripts found
 witnesses_legal scripts found h = λ k d lt. course_legal scripts _ (h k d lt).course
-
-pub ruleset legal_rules = (witnesses_legal)

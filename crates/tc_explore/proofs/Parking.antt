@@ -365,5 +365,3 @@ pub reached_main : (scripts : List ScriptView) (reached : List ℕ) (q r : List 
 reached_main scripts reached q r some as_many one covers =
     let most : carried_on r 0 ≤ slice_index_or reached 0 0 = covers 0 (omega (arith, some, as_many)) in
     omega (arith, most, one)
-
-pub ruleset parking_rules = (parked_none)

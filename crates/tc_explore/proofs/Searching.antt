@@ -1,5 +1,5 @@
 -- What one more quiet call of a search represents.
-use Rattle.std.proofs.{lemmas.Bool.{and_parts, or_parts, not-true, or_cases}, Common.{ℕ, ◌≡◌, ◌==◌, ◌&&◌, ◌||◌, not, nat_lt, Option, inl, inr, true, false, None, Some, List, [], ◌∷◌, ◌++◌, length, refl, ap, sym, subst, ◌∙◌, append_assoc, if◌then◌else◌, ⊎_elim}}
+use Rattle.std.proofs.{lemmas.{Bool.{and_parts, or_parts, not-true, or_cases}, List.length-reverse}, Common.{ℕ, ◌≡◌, ◌==◌, ◌&&◌, ◌||◌, not, nat_lt, Option, inl, inr, true, false, None, Some, List, [], ◌∷◌, ◌++◌, length, refl, ap, sym, subst, ◌∙◌, append_assoc, length-append, arith, ◌≤◌, if◌then◌else◌, ⊎_elim}}
 use Rattle.tc_rules.{specs.Prelude.{Run, Comp, Entry, Op, Phase, phase, phase_if_any, created, is_ended, is_fault, is_wake, Case, past_of, comp_of, is_alive_type, is_comp, exists, overall, answer, Verdict, Group, Reply, entry_made, IsLegal}, proofs.Lemmas.{Deciding.{equal_if, test_by}, Sound.{plain_if, IsPlain}}}
 use Rattle.tc_step.specs.Prelude.{ScriptView}
 use Rattle.tc_course.{specs.{Inside.{ends, wake_if}, Prelude.{stand, IsTurn, IsCourse, turn, IsOn}}, proofs.Lemmas.{course_legal, stand_comp}}
@@ -148,5 +148,18 @@ stands_then scripts t u v a b = record {
 
 pub stands_self : {aim : Verdict} (scripts : List ScriptView) (t : Case) → StandsOn aim scripts t t
 stands_self scripts t = record { further = ([], refl); stands = λ p cp f. f }
+
+none_more : (more p q : List Entry) → q ≡ more ++ p → length q ≤ length p → q ≡ p
+none_more [] p q is short = is
+none_more (e ∷ more) p q is short = absurd (omega (arith, ap length is, length-append (e ∷ more) p, short))
+
+-- a course that is no longer is the same
+pub same_length : {aim : Verdict} (scripts : List ScriptView) (t u : Case) → StandsOn aim scripts t u → length u.history ≡ length t.history → past_of u ≡ past_of t
+same_length scripts t u a size = none_more a.further.0 (past_of t) (past_of u) a.further.1 (omega (arith, size, length-reverse t.history, length-reverse u.history))
+
+-- one between two that are the same is the same
+pub same_between : {aim : Verdict} (scripts : List ScriptView) (t u v : Case) → StandsOn aim scripts t u → StandsOn aim scripts u v → past_of v ≡ past_of t → past_of u ≡ past_of t
+same_between scripts t u v a b same =
+    none_more a.further.0 (past_of t) (past_of u) a.further.1 (omega (arith, ap length same, ap length b.further.1, length-append b.further.0 (past_of u)))
 
 pub ruleset searching_rules = (stands_then, stands_self)

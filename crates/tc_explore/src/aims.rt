@@ -1,10 +1,10 @@
 //! The searches for the verdicts of a test case, each up to a better verdict than the last.
 ghost use Rattle.std.specs.Prelude.{◌≡◌, ◌≤◌, false, IfOk, length};
 ghost use Rattle.tc_entry.specs.declared.limits.TheConstants.{BEHAVIOURS};
-ghost use Rattle.tc_explore.specs.{Found.AreFromBest, Inside.Seen.IsNoted, Inside.Seen.IsSearched};
+ghost use Rattle.tc_explore.specs.Inside.Seen.{IsNoted, IsSearched};
 ghost use Rattle.tc_explore.specs.Inside.Seen as seen;
 
-use crate::findings::{Findings, order};
+use crate::findings::Findings;
 use crate::search::{Searched, search_all};
 use crate::straight::note_straight;
 use std::alloc::Global;
@@ -38,11 +38,11 @@ fn next_aim(found: &[Witness], aim: Verdict) -> Option<Verdict>
     None
 }
 
-// Looks for all verdicts, then for those up to the one that is next better than the worst that was found, and so on. Each
-// search keeps that many states at most, and the most that one kept are returned. If the last one comes to its end, the
-// verdict of each complete course is found. At the limit some schedules are played to their ends.
-#[tactic(auto, using(crate::proofs::NextAim::aim_rules, crate::proofs::Kept::met_none))]
-fn search_by_aims(
+/// Looks for all verdicts, then for those up to the one that is next better than the worst that was found, and so on. Each
+/// search keeps that many states at most, and the most that one kept are returned. If the last one comes to its end, the
+/// verdict of each complete course is found. At the limit some schedules are played to their ends.
+#[tactic(auto, using(crate::proofs::NextAim::above_error, crate::proofs::Kept::met_none))]
+pub(crate) fn search_verdicts(
     alloc: Global,
     scripts: &[Script],
     limit: usize,
@@ -80,24 +80,4 @@ fn search_by_aims(
             Some(better) => aim = better,
         }
     }
-}
-
-/// Looks for the verdicts of all complete courses by searches that keep that many states at most each, and returns the most
-/// that one kept. At their limit one verdict at least is found. The witnesses are in the order of their verdicts.
-pub(crate) fn search_verdicts(
-    alloc: Global,
-    scripts: &[Script],
-    limit: usize,
-    found: Findings,
-) -> Result<Searched, NoMemory>
-    requires some { 1 ≤ length scripts.now }
-    requires few { length scripts.now ≤ BEHAVIOURS }
-    requires found { IsNoted scripts.now found }
-    ensures searched { IfOk result (IsSearched scripts.now limit) }
-    ensures ordered { IfOk result (λ s. AreFromBest s.found.witnesses.items) }
-    ensures told { IfOk result (λ s. s.is_whole ≡ false → 1 ≤ length s.found.witnesses.items) }
-{
-    let mut searched = search_by_aims(alloc, scripts, limit, found)?;
-    order(&mut searched.found.witnesses);
-    Ok(searched)
 }

@@ -8,7 +8,7 @@ ghost use Rattle.tc_explore.specs.Inside.Played as plays;
 use std::alloc::Global;
 use std::marker::Model;
 use tc_course::Course;
-use tc_entry::{Entry, Op};
+use tc_entry::Entry;
 use tc_step::Script;
 use tc_verdict::{NoMemory, Run};
 
@@ -32,24 +32,16 @@ impl<'a> Model for Kept<'a> {
     ghost invariant = { λ k. (1 ≤ length k.scripts.now) × (length k.scripts.now ≤ BEHAVIOURS) };
 }
 
-// What a run calls next, if there is such a run.
-fn turn_within(course: &Course, scripts: &[Script], run: Run) -> Option<Op>
-    requires { course.now.behaviours ≡ length scripts.now }
-    ensures { result ≡ plays.turn_within scripts.now (past_of course.now) run.0 }
-{
-    if usize::from(run.0) >= scripts.len() {
-        return None;
-    }
-    course.turn(scripts, run)
-}
-
-// The course with the next call of a run, if it has one.
+// The course with the next call of a run, if there is such a run, and it has one.
 fn with_next(course: Course, scripts: &[Script], run: Run) -> Result<Course, NoMemory>
     requires { course.behaviours ≡ length scripts.now }
     ensures behaviours { IfOk result (λ c. c.behaviours ≡ length scripts.now) }
     ensures made { IfOk result (λ c. past_of c ≡ plays.made_next scripts.now run (past_of course)) }
 {
-    match turn_within(&course, scripts, run) {
+    if usize::from(run.0) >= scripts.len() {
+        return Ok(course);
+    }
+    match course.turn(scripts, run) {
         Some(op) => course.with(run, op),
         None => Ok(course),
     }

@@ -8,12 +8,12 @@ ghost use Rattle.tc_entry.specs.Reply as reply;
 ghost use Rattle.tc_rules.specs.Answers as answers;
 ghost use Rattle.tc_rules.specs.Phases as phases;
 ghost use Rattle.tc_course.specs.Course as courses;
-ghost use Rattle.tc_explore.specs.Inside.{Seen.IsCalm, Seen.IsCalmAfter, Seen.IsLoudAt, Seen.IsSeenBy, Seen.IsOpen, Seen.IsState, Seen.StandsOn, Simulation.IsWithin};
+ghost use Rattle.tc_explore.specs.Inside.{Seen.IsCalm, Seen.IsCalmAt, Seen.IsLoudAt, Seen.IsSeenBy, Seen.IsOpen, Seen.IsState, Seen.StandsOn, Simulation.IsWithin};
 ghost use Rattle.tc_explore.specs.Inside.Simulation as moves;
 
 use tc_course::{Course, has_gone_on, level, next_call};
 use tc_entry::{Comp, Group, Op, Phase, Target};
-use tc_step::{STEPS, Script};
+use tc_step::Script;
 use tc_verdict::{NoMemory, Run, Verdict, from_user};
 
 // Whether a call asks a question, or sets a verdict that is no worse than this one.
@@ -160,72 +160,58 @@ fn is_silent(aim: Verdict, course: &Course, scripts: &[Script], run: Run, op: &O
     !reply.is_fault() && has_gone_on(reply) && is_unseen(aim, course, scripts, run, op)
 }
 
-// A course, and whether it is longer than it was.
-#[derive(Drop)]
-struct Advance {
-    course: Course,
-    went_on: bool,
-}
-
-// The course with the next calls of a run of which nobody can see that they were made.
-#[tactic(auto, using(crate::proofs::Searching::searching_rules, crate::proofs::Keeping::call_rules, crate::proofs::Keeping::calm_rules, tc_course::proofs::Lemmas::turn_rules))]
+// The course with the next calls of a run of which nobody can see that they were made. Each turn adds an entry, and no
+// memory holds as many as there are turns.
+#[tactic(auto, using(crate::proofs::Searching::searching_rules, crate::proofs::Keeping::on_open, tc_course::proofs::Lemmas::turn_rules))]
 fn with_silent_calls(
     aim: Verdict,
     course: Course,
     scripts: &[Script],
     run: Run,
-) -> Result<Advance, NoMemory>
+) -> Result<Course, NoMemory>
     requires within { run.0 < length scripts.now }
     requires opened { IsOpen scripts.now course }
     requires verdict { IsWithin aim (past_of course) }
-    ensures verdict { IfOk result (λ a. IsWithin aim (past_of a.course)) }
-    ensures opened { IfOk result (λ a. IsOpen scripts.now a.course) }
-    ensures stands { IfOk result (λ a. StandsOn aim scripts.now course a.course) }
-    ensures calm { IfOk result (λ a. a.went_on ≡ false → IsCalmAfter scripts.now course a.course run.0) }
+    ensures verdict { IfOk result (λ c. IsWithin aim (past_of c)) }
+    ensures opened { IfOk result (λ c. IsOpen scripts.now c) }
+    ensures stands { IfOk result (λ c. StandsOn aim scripts.now course c) }
+    ensures calm { IfOk result (λ c. IsCalmAt scripts.now (past_of c) run.0) }
 {
     let mut course = course;
-    let mut went_on = false;
-    for _ in 0..STEPS + 1 {
+    for _ in 0..usize::MAX {
         let Some(op) = next_call(&course, scripts, run) else {
-            return Ok(Advance { course, went_on });
+            return Ok(course);
         };
         if !is_silent(aim, &course, scripts, run, &op) {
-            return Ok(Advance { course, went_on });
+            return Ok(course);
         }
         course = course.with(run, op)?;
-        went_on = true;
     }
-    Ok(Advance {
-        course,
-        went_on: true,
-    })
+    Err(NoMemory)
 }
 
 // The course with such calls of all runs, one run after the other.
-#[tactic(auto, using(crate::proofs::Searching::searching_rules, crate::proofs::Keeping::calm_rules))]
-fn calmed_once(aim: Verdict, course: Course, scripts: &[Script]) -> Result<Advance, NoMemory>
+#[tactic(auto, using(crate::proofs::Searching::searching_rules))]
+fn calmed_once(aim: Verdict, course: Course, scripts: &[Script]) -> Result<Course, NoMemory>
     requires few { length scripts.now ≤ BEHAVIOURS }
     requires opened { IsOpen scripts.now course }
     requires verdict { IsWithin aim (past_of course) }
-    ensures verdict { IfOk result (λ a. IsWithin aim (past_of a.course)) }
-    ensures opened { IfOk result (λ a. IsOpen scripts.now a.course) }
-    ensures stands { IfOk result (λ a. StandsOn aim scripts.now course a.course) }
-    ensures calm { IfOk result (λ a. a.went_on ≡ false → IsCalm scripts.now (past_of a.course)) }
+    ensures verdict { IfOk result (λ c. IsWithin aim (past_of c)) }
+    ensures opened { IfOk result (λ c. IsOpen scripts.now c) }
+    ensures stands { IfOk result (λ c. StandsOn aim scripts.now course c) }
+    ensures calm { IfOk result (λ c. past_of c ≡ past_of course → IsCalm scripts.now (past_of course)) }
 {
     let mut course = course;
-    let mut went_on = false;
     for run in 0..scripts.len() as u16 {
-        let advance = with_silent_calls(aim, course, scripts, Run(run))?;
-        course = advance.course;
-        went_on = went_on || advance.went_on;
+        course = with_silent_calls(aim, course, scripts, Run(run))?;
     }
-    Ok(Advance { course, went_on })
+    Ok(course)
 }
 
 /// The course with all calls of which nobody can see that they were made. The end of a run can make a call of another
 /// one of these, so it goes over the runs until none has such a call. Each turn but the last adds an entry, and no
 /// memory holds as many as there are turns.
-#[tactic(auto, using(crate::proofs::Searching::searching_rules, crate::proofs::Keeping::calm_rules))]
+#[tactic(auto, using(crate::proofs::Searching::searching_rules))]
 pub(crate) fn calmed(aim: Verdict, course: Course, scripts: &[Script]) -> Result<Course, NoMemory>
     requires few { length scripts.now ≤ BEHAVIOURS }
     requires opened { IsOpen scripts.now course }
@@ -235,9 +221,9 @@ pub(crate) fn calmed(aim: Verdict, course: Course, scripts: &[Script]) -> Result
 {
     let mut course = course;
     for _ in 0..usize::MAX {
-        let advance = calmed_once(aim, course, scripts)?;
-        course = advance.course;
-        if !advance.went_on {
+        let called = course.history().len();
+        course = calmed_once(aim, course, scripts)?;
+        if course.history().len() == called {
             return Ok(course);
         }
     }

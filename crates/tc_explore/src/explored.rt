@@ -9,7 +9,7 @@ ghost use Rattle.tc_explore.specs.{Found.AllLocalsFound, Found.AreAllMet, Found.
 ghost use Rattle.tc_explore.specs.Limits as limits;
 
 use crate::aims::search_verdicts;
-use crate::findings::no_findings;
+use crate::findings::{no_findings, order};
 use crate::limits::{ending_of, most_of};
 use crate::search_locals::search_locals;
 use std::alloc::Global;
@@ -22,7 +22,7 @@ use tc_verdict::NoMemory;
 /// search looks at that many states at most, or at as many as have room in memory. It comes to its end unless it meets a
 /// limit, and then the verdict of each complete course is found. At a limit one verdict at least is found. Each number of
 /// calls that is reached has a course too. A test case without behaviours is left undecided.
-#[tactic(auto, using(crate::proofs::Noting::legal_rules, crate::proofs::Noting::noting_rules))]
+#[tactic(auto, using(crate::proofs::Noting::witnesses_legal, crate::proofs::Noting::noting_rules))]
 pub fn explore(alloc: Global, scripts: &[Script], limit: usize) -> Result<Explored, NoMemory>
     requires few { length scripts.now ≤ BEHAVIOURS }
     ensures sound { IfOk result (λ e. AreWitnesses scripts.now e.found) }
@@ -48,7 +48,8 @@ pub fn explore(alloc: Global, scripts: &[Script], limit: usize) -> Result<Explor
         });
     }
     let most = most_of(scripts, limit).ok_or(NoMemory)?;
-    let searched = search_verdicts(alloc, scripts, most.states, found)?;
+    let mut searched = search_verdicts(alloc, scripts, most.states, found)?;
+    order(&mut searched.found.witnesses);
     Ok(Explored {
         found: Sequence::new(searched.found.witnesses),
         reached: Sequence::new(searched.found.reached),
@@ -60,7 +61,7 @@ pub fn explore(alloc: Global, scripts: &[Script], limit: usize) -> Result<Explor
 /// Looks for the local verdicts that the components of a test case have at the end of its complete courses. The states of
 /// two courses are the same only if the local verdicts are. So it looks at more of them than `explore`, which it bounds
 /// alike. A test case without behaviours is left undecided.
-#[tactic(auto, using(crate::proofs::Marking::found_rules, crate::proofs::LocalsClosed::courses_none))]
+#[tactic(auto, using(crate::proofs::Marking::none_sound, crate::proofs::LocalsClosed::courses_none))]
 pub fn explore_locals(alloc: Global, scripts: &[Script], limit: usize) -> Result<Locals, NoMemory>
     requires few { length scripts.now ≤ BEHAVIOURS }
     ensures sound { IfOk result (λ l. AreLocals scripts.now l.found) }

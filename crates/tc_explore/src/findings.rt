@@ -89,19 +89,6 @@ pub(crate) fn step_all(course: Course, scripts: &[Script]) -> Result<Course, NoM
     Ok(course)
 }
 
-// The witness that a course is in which no run has a call left.
-fn witness_of(alloc: Global, scripts: &[Script], course: &Course) -> Result<Witness, NoMemory>
-    requires on { IsOn scripts.now course.now }
-    requires complete { IsComplete scripts.now (past_of course.now) }
-    ensures witness { IfOk result (λ w. IsWitness scripts.now w.history w.verdict) }
-    ensures verdict { IfOk result (λ w. w.verdict ≡ overall (past_of course.now)) }
-    ensures history { IfOk result (λ w. w.history ≡ course.now.history) }
-{
-    let verdict = course.verdict();
-    let history = Sequence::new(copied_entries(alloc, course.history())?);
-    Ok(Witness { verdict, history })
-}
-
 /// Notes the verdict of a case that is over, if it is new; each run makes its last call first, which is replied Ended.
 #[tactic(auto, using(crate::proofs::Seeing::seeing_rules, crate::proofs::Noting::noting_rules, crate::proofs::Kept::covering_rules))]
 pub(crate) fn note(
@@ -126,8 +113,9 @@ pub(crate) fn note(
     }
     let ended = step_all(course, scripts)?;
     reach(&mut found.reached, scripts, &ended);
-    let witness = witness_of(alloc, scripts, &ended)?;
-    found.witnesses.push(witness)?;
+    let verdict = ended.verdict();
+    let history = Sequence::new(copied_entries(alloc, ended.history())?);
+    found.witnesses.push(Witness { verdict, history })?;
     Ok(())
 }
 
@@ -148,7 +136,7 @@ fn step_if_active(course: Course, scripts: &[Script], run: Run) -> Result<Course
 
 /// The case in which each run that continues has made its next call, and then the main one another. If no run can
 /// continue, it is the end of the case: each of them waits, and the Wake of the main component is a dynamic error.
-#[tactic(auto, using(crate::proofs::Parking::parking_rules))]
+#[tactic(auto, using(crate::proofs::Parking::parked_none))]
 pub(crate) fn with_stuck(course: Course, scripts: &[Script]) -> Result<Course, NoMemory>
     requires some { 1 ≤ length scripts.now }
     requires few { length scripts.now ≤ BEHAVIOURS }

@@ -44,16 +44,12 @@ pub(crate) fn most_of(scripts: &[Script], limit: usize) -> Option<Most>
     ensures limit { IfSome result (λ m. m.limit ≡ limit_met scripts.now limit) }
 {
     let kept = most_in_memory(scripts)?;
-    if kept < limit {
-        return Some(Most {
-            states: kept,
-            limit: Limit::Memory,
-        });
-    }
-    Some(Most {
-        states: limit,
-        limit: Limit::States,
-    })
+    let (states, limit) = if kept < limit {
+        (kept, Limit::Memory)
+    } else {
+        (limit, Limit::States)
+    };
+    Some(Most { states, limit })
 }
 
 /// How a search ended that came to its end, or otherwise met this limit.

@@ -2,8 +2,8 @@
 //! they were made, and goes no further where the verdict is worse. If it comes to its end nothing up to that is missed.
 ghost use Rattle.std.specs.Prelude.{◌≡◌, ◌≤◌, ◌<◌, ◌∷◌, true, false, IfOk, OnOk, length, slice_index_or};
 ghost use Rattle.tc_entry.specs.declared.limits.TheConstants.{BEHAVIOURS};
-ghost use Rattle.tc_rules.specs.Prelude.{past_of, entry_made};
-ghost use Rattle.tc_course.specs.Prelude.{IsOn, IsNext, carried_on};
+ghost use Rattle.tc_rules.specs.Prelude.{past_of};
+ghost use Rattle.tc_course.specs.Prelude.{IsOn, carried_on};
 ghost use Rattle.tc_verdict.specs.declared.verdict.Verdict.TheVariants.{Error};
 ghost use Rattle.tc_explore.specs.{Found.AreAllMet, Inside.{Seen.{AllTold, AreHeld, IsClosedFrom, IsFurther, IsLonger, IsNoLess, IsNoted, IsOpen, IsPlaced, IsRunClosed, IsSearch, IsSeen, IsState, IsStillAt}, Simulation.{IsCovered, IsWithin}}};
 ghost use Rattle.tc_explore.specs.Inside.Simulation as moves;
@@ -16,7 +16,6 @@ use crate::straight::call_on;
 use indexmap::IndexSet;
 use std::alloc::Global;
 use tc_course::{Course, is_found, level};
-use tc_entry::Op;
 use tc_step::Script;
 use tc_verdict::{NoMemory, Run, Verdict};
 
@@ -31,23 +30,6 @@ pub(crate) struct Met<'a> {
     pub(crate) is_whole: bool,
 }
 
-/// The course with one more call; the course itself is kept.
-#[tactic(auto, using(crate::proofs::Closed::closed_rules, tc_course::proofs::Lemmas::turn_rules))]
-pub(crate) fn with_call(
-    alloc: Global,
-    scripts: &[Script],
-    course: &Course,
-    run: Run,
-    op: Op,
-) -> Result<Course, NoMemory>
-    requires on { IsOn scripts.now course.now }
-    requires turn { IsNext scripts.now course.now run op }
-    ensures on { IfOk result (λ c. IsOn scripts.now c) }
-    ensures added { IfOk result (λ c. past_of c ≡ entry_made course.now.behaviours (past_of course.now) run op ∷ past_of course.now) }
-{
-    course.copied(alloc)?.with(run, op)
-}
-
 impl<'a> Met<'a> {
     /// Takes in the state of a course, unless one of its key is met, or as many as the limit are. Local verdicts and waits
     /// count in keys, or not.
@@ -57,7 +39,7 @@ impl<'a> Met<'a> {
         requires on { IsOn self.old.scripts.now course.now }
         ensures { OnOk result (IsPlaced all course.now self.old self.new) }
     {
-        let key = state_key(course, self.alloc, self.scripts.len() as u16, all)?;
+        let mut key = state_key(course, self.alloc, self.scripts.len() as u16, all)?;
         if self.keys.contains(&key) {
             return Ok(());
         }
@@ -65,7 +47,6 @@ impl<'a> Met<'a> {
             self.is_whole = false;
             return Ok(());
         }
-        let mut key = key;
         key.shrink_to_fit();
         self.keys.insert(key)?;
         let kept = Kept::of(self.alloc, self.scripts, course)?;
@@ -98,7 +79,7 @@ impl<'a> Search<'a> {
 
     // Makes the next call of a run, unless that does not continue, and takes in what it leads to, or notes its verdict,
     // unless that is worse than is looked for. It returns whether the call continues and is no error.
-    #[tactic(auto, using(crate::proofs::Closed::run_rules, crate::proofs::Seeing::seeing_rules, crate::proofs::Keeping::keeping_rules, crate::proofs::Keeping::open_next))]
+    #[tactic(auto, using(crate::proofs::Closed::closed_rules, crate::proofs::Closed::run_rules, crate::proofs::Seeing::seeing_rules, crate::proofs::Keeping::keeping_rules, crate::proofs::Keeping::open_next))]
     fn try_run(&mut self, course: &Course, run: Run) -> Result<bool, NoMemory>
         requires within { run.0 < length self.old.met.scripts.now }
         requires search { IsSearch self.old }
@@ -112,7 +93,7 @@ impl<'a> Search<'a> {
             return Ok(false);
         };
         let goes_on = !course.would(run, &op).is_fault();
-        let next = with_call(self.met.alloc, self.met.scripts, course, run, op)?;
+        let next = course.copied(self.met.alloc)?.with(run, op)?;
         if next.is_over() {
             note(self.met.alloc, self.met.scripts, next, &mut self.found)?;
             return Ok(goes_on);

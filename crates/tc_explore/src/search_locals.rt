@@ -8,7 +8,7 @@ ghost use Rattle.tc_explore.specs.{Found.{AllLocalsFound, AreLocals, HasCourses}
 
 use crate::limits::{Most, ending_of};
 use crate::marks::Marks;
-use crate::search::{Met, with_call};
+use crate::search::Met;
 use indexmap::IndexSet;
 use std::alloc::Global;
 use tc_course::{Course, Locals, next_call};
@@ -38,7 +38,7 @@ impl<'a> LocalSearch<'a> {
         let Some(op) = next_call(course, self.met.scripts, run) else {
             return Ok(());
         };
-        let next = with_call(self.met.alloc, self.met.scripts, course, run, op)?;
+        let next = course.copied(self.met.alloc)?.with(run, op)?;
         if next.is_over() {
             return self.marks.note(self.met.scripts, next);
         }
@@ -61,7 +61,7 @@ impl<'a> LocalSearch<'a> {
 
 /// Makes the calls of all runs from each state that is met, within a limit. It comes to its end unless it meets the
 /// limit, and then the local verdicts of each complete course are found.
-#[tactic(auto, using(tc_course::proofs::Lemmas::turn_rules, crate::proofs::LocalsClosed::loop_rules))]
+#[tactic(auto, using(tc_course::proofs::Lemmas::turn_rules, crate::proofs::LocalsClosed::going_same))]
 pub(crate) fn search_locals(
     alloc: Global,
     scripts: &[Script],

@@ -23,16 +23,6 @@ fn phase_number(phase: Option<Phase>) -> u64
     }
 }
 
-// A local verdict as a number.
-fn local_number(local: Option<Verdict>) -> u64
-    ensures { result ≡ local_code local }
-{
-    match local {
-        None => 0,
-        Some(verdict) => level(verdict) + 1,
-    }
-}
-
 // Adds two numbers.
 fn add_pair(key: &mut Vec<u64>, first: u64, second: u64) -> Result<(), NoMemory>
     ensures { OnOk result (key.new.items ≡ key.old.items ++ first ∷ second ∷ []) }
@@ -50,16 +40,6 @@ fn add_target(key: &mut Vec<u64>, killed: bool, target: Target) -> Result<(), No
         Target::One(comp) => add_pair(key, if killed { 2 } else { 1 }, u64::from(comp.0)),
         Target::Any => add_pair(key, if killed { 4 } else { 3 }, 0),
         Target::All => add_pair(key, if killed { 6 } else { 5 }, 0),
-    }
-}
-
-// A component as a number.
-fn comp_number(comp: Option<Comp>) -> u64
-    ensures { result ≡ comp_code comp }
-{
-    match comp {
-        None => 0,
-        Some(comp) => u64::from(comp.0) + 1,
     }
 }
 
@@ -87,7 +67,7 @@ fn add_wake(key: &mut Vec<u64>, known: &Standing) -> Result<(), NoMemory>
 fn add_run(key: &mut Vec<u64>, known: &Standing, goes_on: bool, waits: bool) -> Result<(), NoMemory>
     ensures { OnOk result (key.new.items ≡ key.old.items ++ run_key waits goes_on known.now) }
 {
-    key.push(comp_number(known.comp()))?;
+    key.push(known.comp().map_or(0, |comp| u64::from(comp.0) + 1))?;
     if !goes_on {
         key.push(0)?;
         return Ok(());
@@ -116,7 +96,7 @@ fn add_component(
     if !local {
         return Ok(());
     }
-    key.push(local_number(course.local(comp)))?;
+    key.push(course.local(comp).map_or(0, |verdict| level(verdict) + 1))?;
     Ok(())
 }
 

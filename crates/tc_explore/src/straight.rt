@@ -37,14 +37,6 @@ fn run_at(from_highest: bool, count: u16, at: u16) -> Run
     Run(if from_highest { count - 1 - at } else { at })
 }
 
-// How many there are.
-fn count_of(scripts: &[Script]) -> u16
-    requires few { length scripts.now ≤ BEHAVIOURS }
-    ensures { result ≡ length scripts.now }
-{
-    scripts.len() as u16
-}
-
 // The first run in this order that continues, and its next call.
 #[tactic(auto, using(crate::proofs::Closed::one_more_held))]
 fn first_call(course: &Course, scripts: &[Script], from_highest: bool) -> Option<(Run, Op)>
@@ -54,7 +46,7 @@ fn first_call(course: &Course, scripts: &[Script], from_highest: bool) -> Option
     ensures goes { IfSome result (λ c. goes_on (answer course.now.behaviours (past_of course.now) c.0.0 c.1) ≡ true) }
     ensures none { IfNone result (AreHeld scripts.now (past_of course.now)) }
 {
-    let count = count_of(scripts);
+    let count = scripts.len() as u16;
     for at in 0..count {
         let run = run_at(from_highest, count, at);
         if let Some(op) = call_on(course, scripts, run) {

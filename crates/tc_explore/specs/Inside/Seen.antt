@@ -69,10 +69,6 @@ abbrev pub IsSeenBy : Verdict → List ScriptView → Case → ℕ → Op → Ty
 IsSeenBy aim scripts t b op =
     goes_on (answer t.behaviours (past_of t) b op) ≡ true → is_fault (answer t.behaviours (past_of t) b op) ≡ false → is_silent aim scripts (past_of t) b op ≡ false
 
--- the course is as long as it was, and so it is of the next call of run b
-abbrev pub IsCalmAfter : List ScriptView → Case → Case → ℕ → Type 0
-IsCalmAfter scripts before after b = (past_of after ≡ past_of before) × IsCalmAt scripts (past_of before) b
-
 -- a state that a search for verdicts up to this one keeps
 pub record IsState (aim : Verdict) (scripts : List ScriptView) (t : Case) : Type 0 where
   pub opened : IsOpen scripts t

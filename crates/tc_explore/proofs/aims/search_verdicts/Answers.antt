@@ -1,23 +1,50 @@
-use Rattle.std.proofs.{Common.arith, lemmas.List.Sorted.length_permutation}
-use Rattle.tc_explore.proofs.Noting.{noted_moved, covered_moved, all_found_moved, from_best}
+use Rattle.std.proofs.Common.{rules, ◌≡◌, true, false, None, Some, arith}
+use Rattle.tc_explore.{specs.Inside.Seen.next_aim, proofs.{Kept.{met_max, met_more, most_of}, NextAim.{above_all, above_next}}}
 use Rattle.tc_explore.proofs.aims.search_verdicts.Goals as goal
 
-pub returns-clause-searched : goal.returns-clause-searched
-returns-clause-searched c =
-    let is = c.in_ok-searched.ensures.searched in
-    let moved = c.order.ensures.same in
+pub loop-searched-preserved : goal.loop-searched-preserved
+loop-searched-preserved c =
+    let was = c.loop-searched.invariant in
+    let s = c.in_ok-searched.searched in
+    let now = c.in_ok-searched.ensures in
+    let whole : c.in_ok-searched.searched.is_whole ≡ true = search rules in
+    let is : Some c.in-Some.better ≡ next_aim c.in_ok-searched.searched.found.witnesses.items c.loop-searched.aim = search rules in
+    let most = most_of c.loop-searched.states s.states c.max-states.result c.max-states.ensures in
     record {
-      noted = (noted_moved c.args.scripts.now _ _ moved is.noted.0, is.noted.1, covered_moved _ _ _ moved is.noted.2);
-      met = is.met;
-      complete = λ h. all_found_moved c.args.scripts.now _ _ moved (is.complete h);
-      within = is.within;
-      full = is.full;
+      noted = now.found;
+      above = above_next c.args.scripts.now c.loop-searched.found.witnesses.items s.found.witnesses.items c.loop-searched.aim c.in-Some.better now.more_found was.above (now.complete whole) is;
+      met = met_max c.args.scripts.now c.loop-searched.found.reached.items s.found.reached.items c.loop-searched.states s.states c.max-states.result most now.more was.met now.met;
+      within = omega (arith, most, was.within, now.within);
     }
 
-pub returns-clause-ordered : goal.returns-clause-ordered
-returns-clause-ordered c =
-    let noted = noted_moved c.args.scripts.now _ _ c.order.ensures.same c.in_ok-searched.ensures.searched.noted.0 in
-    from_best _ c.order.ensures.ordered noted.once
+pub returns-then-not-searched-clause-searched : goal.returns-then-not-searched-clause-searched
+returns-then-not-searched-clause-searched c =
+    let was = c.loop-searched.invariant in
+    let s = c.in_ok-searched.searched in
+    let now = c.in_ok-searched.ensures in
+    let part : c.in_ok-searched.searched.is_whole ≡ false = search rules in
+    let most = most_of c.loop-searched.states s.states c.max-states.result c.max-states.ensures in
+    record {
+      noted = c.in_ok-note_straight.ensures.found;
+      met = met_more c.args.scripts.now s.found.reached.items c.note_straight.new.found.reached.items c.max-states.result c.in_ok-note_straight.ensures.more
+          (met_max c.args.scripts.now c.loop-searched.found.reached.items s.found.reached.items c.loop-searched.states s.states c.max-states.result most now.more was.met now.met);
+      complete = λ h. absurd cc;
+      within = omega (arith, most, was.within, now.within);
+      full = λ h. omega (arith, most, was.within, now.full part);
+    }
 
-pub returns-clause-told : goal.returns-clause-told
-returns-clause-told c h = let size = length_permutation _ _ c.order.ensures.same in let some = c.in_ok-searched.ensures.told h in omega (arith, size, some)
+pub returns-in-None-clause-searched : goal.returns-in-None-clause-searched
+returns-in-None-clause-searched c =
+    let was = c.loop-searched.invariant in
+    let s = c.in_ok-searched.searched in
+    let now = c.in_ok-searched.ensures in
+    let whole : c.in_ok-searched.searched.is_whole ≡ true = search rules in
+    let is : None ≡ next_aim c.in_ok-searched.searched.found.witnesses.items c.loop-searched.aim = search rules in
+    let most = most_of c.loop-searched.states s.states c.max-states.result c.max-states.ensures in
+    record {
+      noted = now.found;
+      met = met_max c.args.scripts.now c.loop-searched.found.reached.items s.found.reached.items c.loop-searched.states s.states c.max-states.result most now.more was.met now.met;
+      complete = λ h. above_all c.args.scripts.now c.loop-searched.found.witnesses.items s.found.witnesses.items c.loop-searched.aim now.more_found was.above (now.complete whole) is;
+      within = omega (arith, most, was.within, now.within);
+      full = λ h. absurd cc;
+    }

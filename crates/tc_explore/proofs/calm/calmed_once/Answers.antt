@@ -1,20 +1,18 @@
-use Rattle.std.proofs.Common.{rules, ◌≡◌, ◌+◌, false}
-use Rattle.tc_explore.proofs.{Keeping.{AreCalmAfter, calm_more}, Searching.stands_then, calm.calmed_once.Goals.{else-went_on, then-went_on}}
+use Rattle.std.proofs.Common.{subst}
+use Rattle.tc_rules.specs.Prelude.{past_of}
+use Rattle.tc_course.proofs.Lemmas.{below_more}
+use Rattle.tc_explore.{specs.Inside.Seen.IsCalmAt, proofs.Searching.{same_between, stands_then}}
 use Rattle.tc_explore.proofs.calm.calmed_once.Goals as goal
 
 pub loop-run-preserved : goal.loop-run-preserved
 loop-run-preserved c =
+    let scripts = c.args.scripts.now in
+    let t = c.args.course in
+    let u = c.loop-run.course in
     let was = c.loop-run.invariant in
-    let is = c.in_ok-advance.ensures in
-    let calm : c.if-went_on.went_on ≡ false → AreCalmAfter c.args.scripts.now c.args.course c.in_ok-advance.advance.course (c.loop-run.run + 1) = elim c.if-went_on.branch [
-      | then-went_on w ↦ λ h. absurd cc
-      | else-went_on w ↦ λ h.
-          let before : c.loop-run.went_on ≡ false = search rules in
-          let now : c.in_ok-advance.advance.went_on ≡ false = search rules in
-          calm_more c.args.scripts.now c.args.course c.loop-run.course c.in_ok-advance.advance.course c.loop-run.run (was.2 before) (is.calm now)
-    ] in (
+    let is = c.in_ok-course.ensures in (
       is.opened,
-      stands_then c.args.scripts.now c.args.course c.loop-run.course c.in_ok-advance.advance.course was.1 is.stands,
-      calm,
+      stands_then scripts t u c.in_ok-course.course was.1 is.stands,
+      λ same. below_more (IsCalmAt scripts (past_of t)) c.loop-run.run (was.2 (same_between scripts t u c.in_ok-course.course was.1 is.stands same)) (subst (λ p. IsCalmAt c.args.scripts.now p c.loop-run.run) same is.calm),
       is.verdict,
     )

@@ -19,6 +19,5 @@ loop-preserved c =
     let next = open_silent scripts t u c.args.run c.in-Some.op was.0 on turn plain goes silent added in (
       next.0,
       stands_then scripts c.args.course t u was.1 (lead_call scripts t u c.args.run c.in-Some.op was.0.on turn plain (on_not_ended (answer t.behaviours (past_of t) c.args.run.0 c.in-Some.op) goes) silent added),
-      λ h. absurd cc,
-      next.1 was.3,
+      next.1 was.2,
     )

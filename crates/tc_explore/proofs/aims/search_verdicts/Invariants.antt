@@ -1,7 +1,7 @@
 use Rattle.std.proofs.Common.{◌≤◌}
 use Rattle.tc_rules.specs.Prelude.{level_of}
 use Rattle.tc_explore.specs.{Found.AreAllMet, Inside.Seen.{AreFoundAbove, IsNoted}}
-use Rattle.tc_explore.proofs.aims.search_by_aims.Given as goal
+use Rattle.tc_explore.proofs.aims.search_verdicts.Given as goal
 
 abbrev pub invariant-loop-searched : goal.invariant-loop-searched
 invariant-loop-searched l = record {
