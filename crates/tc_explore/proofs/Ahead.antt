@@ -1,5 +1,5 @@
 -- What holds of a history that is ahead of another by the ends of runs.
-use Rattle.std.{proofs.{lemmas.Bool.{or_right, false_from_ne_true, or_left, or_cases, and_parts, and_from, cases_Bool}, Common.{ℕ, ◌≡◌, ◌==◌, ◌||◌, ◌&&◌, ◌⊎◌, inl, inr, not, if◌then◌else◌, nat_le, Bool, true, false, Option, Some, None, is_some, MatchOption, List, [], ◌∷◌, length, drop, refl, ap, sym, subst, ◌∙◌, ◌≤◌, arith, ⊎_elim}}, specs.List.{list_any, list_all}}
+use Rattle.std.{proofs.{lemmas.Bool.{or_right, false_from_ne_true, or_left, or_cases, and_parts, and_from, cases_Bool}, Common.{ℕ, ◌≡◌, ◌==◌, ◌&&◌, ◌⊎◌, inl, inr, not, if◌then◌else◌, nat_le, Bool, true, false, Option, Some, None, is_some, MatchOption, List, [], ◌∷◌, length, drop, refl, ap, sym, subst, ◌∙◌, ◌≤◌, arith, ⊎_elim}}, specs.List.{list_any, list_all}}
 use Rattle.tc_rules.{specs.{Prelude.{Run, Comp, Entry, Op, Target, Phase, Reply, is_ended, is_fault, comp_of, ptcs, exists, is_in, created, add_new, halts, kills, phase, start_in, done, killed, is_running, is_killed, is_done, gives, overall, holds, fault, names, all_exist, asks_many, special_fault, start_fault, components, answer, plain_answer, is_active, is_active_on, is_run_of, IsLegal, level_of, Verdict, Fault, is_alive_type}, Inside.Step.next_phase, declared.awaited.Awaited.Awaited}, proofs.Lemmas.{Deciding.{equal_if, self_equal}, Going.starts_still, Keeping.all_exist_same, Over.on_existing, Sound.plain_if, Decided.overall_more}}
 use Rattle.tc_entry.specs.declared.limits.TheConstants.{COMPONENTS}
 use Rattle.tc_step.specs.Prelude.{ScriptView}

@@ -1,6 +1,6 @@
 -- Histories that are alike are answered alike, except for questions, and are alike after the same entry.
-use Rattle.std.{proofs.{lemmas.Bool.{or_parts, or_right, false_from_ne_true}, Common.{ℕ, ◌≡◌, ◌==◌, ◌&&◌, ◌||◌, not, if◌then◌else◌, nat_lt, Bool, true, false, Option, Some, None, is_some, List, [], ◌∷◌, ◌++◌, length, drop, refl, ap, sym, ◌∙◌, arith, ◌≤◌}}, specs.List.{list_any, list_all}}
-use Rattle.tc_rules.{specs.{Prelude.{Verdict, worse, worst, level_of, Comp, Entry, Op, Target, Phase, comps, comp_of, ptcs, exists, is_in, is_comp, is_alive_type, created, started_on, first_some, add_new, halts, kills, phase, phase_if_any, start_in, done, killed, is_running, is_killed, is_done, local, overall, gives, verdicts_of, holds, fault, names, special_fault, start_fault, components, is_active, is_active_on, is_run_of, IsLegal, Group}, Inside.{Kept.{blank, state_of}, Step.{next_local, next_phase, next_state}}, declared.{awaited.Awaited.Awaited, component_state.ComponentState.ComponentState}}, proofs.Lemmas.{Deciding.{equal_if, self_equal, none_if, first_alone}, Fresh.fresh_step, Keeping.{all_exist_same, kill_halts}, LawsOfHistories.killed_was_halted, Sound.starts, Steps.state_step, Decided.{overall_more, no_better, not_on, not_before}}}
+use Rattle.std.{proofs.{lemmas.Bool.{or_parts, or_right, false_from_ne_true}, Common.{ℕ, ◌≡◌, ◌==◌, ◌&&◌, not, if◌then◌else◌, nat_lt, Bool, true, false, Option, Some, None, is_some, List, [], ◌∷◌, ◌++◌, length, drop, refl, ap, sym, ◌∙◌, arith, ◌≤◌}}, specs.List.{list_any, list_all}}
+use Rattle.tc_rules.{specs.{Prelude.{Verdict, worse, worst, level_of, Comp, Entry, Op, Target, Phase, comps, comp_of, ptcs, exists, is_in, is_comp, is_alive_type, created, started_on, first_some, add_new, halts, kills, phase, phase_if_any, start_in, done, killed, is_running, is_killed, is_done, local, overall, gives, verdicts_of, holds, fault, names, special_fault, start_fault, components, is_active, is_active_on, is_run_of, IsLegal, Group}, Inside.{Kept.{blank, state_of}, Step.{next_local, next_phase, next_state}}, declared.{awaited.Awaited.Awaited, component_state.ComponentState.ComponentState}}, proofs.Lemmas.{Deciding.{equal_if, self_equal, first_alone}, Fresh.fresh_step, Keeping.{all_exist_same, kill_halts}, LawsOfHistories.killed_was_halted, Sound.starts, Steps.state_step, Decided.{overall_more, no_better, not_on, not_before}}}
 use Rattle.tc_verdict.proofs.Lemmas.Order.{worse_left, worse_right}
 use Rattle.tc_explore.specs.Inside.Simulation.{IsAlike, is_gone, is_late, is_met}
 

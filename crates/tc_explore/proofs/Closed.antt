@@ -1,8 +1,8 @@
 -- When what comes after a state is seen, or its verdict is found.
 use Rattle.std.proofs.Common.{Bool, ℕ, ◌≡◌, ◌+◌, ◌-◌, ◌<◌, ◌≤◌, true, false, Some, List, ◌∷◌, length, reverse, refl, ap, sym, subst, ◌∙◌, arith}
-use Rattle.tc_rules.specs.Prelude.{Run, Entry, Op, Reply, is_fault, Case, past_of, is_over, overall, answer, Verdict, level_of, entry_made}
+use Rattle.tc_rules.specs.Prelude.{Run, Entry, Op, Reply, is_fault, Case, past_of, is_over, overall, answer, Verdict, entry_made}
 use Rattle.tc_step.specs.Prelude.{ScriptView}
-use Rattle.tc_course.{specs.{declared.witness.Witness.Witness, Prelude.{is_found, goes_on, turn, IsTurn, IsCourse, IsOn, CannotGo}}, proofs.Lemmas.below_more}
+use Rattle.tc_course.{specs.{Prelude.{is_found, goes_on, turn, IsTurn, IsCourse, IsOn, CannotGo}}, proofs.Lemmas.below_more}
 use Rattle.tc_explore.{specs.{Inside.{Seen.{AreHeld, AreStill, IsCalm, IsFurther, IsHeldAt, IsRunClosed, IsSeen, IsState, IsStillAt, run_at}, Simulation.{GoesOn, IsClosedFor, IsCovered, IsWithin}}, declared.search.Search.Search}, proofs.Seeing.closed_for_further}
 
 -- what a copy of a course has called, it has called

@@ -1,6 +1,6 @@
 -- If whatever comes after each seen history is seen, or its verdict is found, the verdict of every complete course is
 -- found.
-use Rattle.std.{proofs.{lemmas.Bool.{both_ways, not-true, or_parts, cases_lt, true_from_ne_false}, Common.{ℕ, zero, suc, ◌≡◌, ◌<◌, ◌≤◌, ◌==◌, ◌&&◌, ◌||◌, ◌⊎◌, inl, inr, ⊎_elim, if◌then◌else◌, Bool, true, false, Option, Some, None, is_some, MatchOption, List, [], ◌∷◌, length, slice_get, refl, ap, sym, subst, ◌∙◌, arith}}, specs.Option.unwrap_or}
+use Rattle.std.{proofs.{lemmas.Bool.{both_ways, not-true, or_parts, cases_lt, true_from_ne_false}, Common.{ℕ, zero, suc, ◌≡◌, ◌<◌, ◌≤◌, ◌==◌, ◌&&◌, ◌⊎◌, inl, inr, ⊎_elim, if◌then◌else◌, Bool, true, false, Option, Some, None, is_some, MatchOption, List, [], ◌∷◌, length, slice_get, refl, ap, sym, subst, ◌∙◌, arith}}, specs.Option.unwrap_or}
 use Rattle.tc_rules.{specs.{Prelude.{Verdict, worse, level_of, Comp, Entry, Op, Target, Phase, Reply, Fault, is_ended, is_fault, is_wake, comp_of, comps, exists, is_in, created, started_on, ends_case, is_over, phase, overall, gives, holds, waiting, waits_in_vain, is_still, is_stuck, awaited, fault, all_exist, answer, plain_answer, wake_reply, is_active, is_active_on, is_run_of, IsLegal, UserVerdict, given}, declared.awaited.Awaited.Awaited}, proofs.Lemmas.{Deciding.{and_right, equal_if, self_equal}, Going.started_by_entry, Over.{all_over, on_existing}, Stuck.one_false, Decided.overall_more}}
 use Rattle.tc_step.specs.Prelude.{ScriptView}
 use Rattle.tc_course.{specs.{Inside.{call_of, wake_if, ends}, declared.witness.Witness.Witness, Prelude.{CourseState, stand, goes_on, after_own, after_other_by, is_idle, turn, steps_of, IsTurn, IsCourse, IsComplete, is_found}}, proofs.Lemmas.{course_legal, HasTurn, has_turn, turn_of, stand_own, stand_comp, stand_unstarted, unstarted, IsAwaitedBy, waiting_wake, wake_after_other, run_in_range, other_not_idle}}

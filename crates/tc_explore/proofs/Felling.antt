@@ -1,8 +1,8 @@
 -- What a stop or kill does that nobody can see: of a component whose run can only set a verdict worse than is looked for.
-use Rattle.std.proofs.{Common.{◌≡◌, ◌<◌, ◌==◌, ◌⊎◌, inl, true, false, Some, None, List, ◌∷◌, length, refl, ap, sym, subst, ◌∙◌, arith, inr}, lemmas.Bool.false_from_ne_true}
+use Rattle.std.proofs.{Common.{◌≡◌, ◌<◌, ◌==◌, inl, true, false, Some, None, List, ◌∷◌, length, refl, ap, sym, subst, ◌∙◌, arith, inr}, lemmas.Bool.false_from_ne_true}
 use Rattle.tc_rules.{specs.Prelude.{Verdict, UserVerdict, given, level_of, Comp, Entry, is_ended, is_fault, comp_of, phase, plain_answer, is_active, is_active_on, is_run_of, IsLegal, Phase, Reply, created, is_wake}, proofs.Lemmas.{Deciding.{equal_if, self_equal}, Over.{on_existing, stays}, Sound.plain_if}}
 use Rattle.tc_step.specs.Prelude.{ScriptView}
-use Rattle.tc_course.{specs.{Prelude.{stand, turn, IsCourse}, Inside.{ends, wake_if}}, proofs.Lemmas.{course_legal, stand_own, stand_comp}}
+use Rattle.tc_course.{specs.{Prelude.{stand, IsCourse}, Inside.{ends, wake_if}}, proofs.Lemmas.{course_legal, stand_own, stand_comp}}
 use Rattle.tc_explore.{specs.Inside.Simulation.{is_barred, is_late, IsQuietAt, IsFollowed, IsFor, IsFelling}, proofs.{Ahead.{KeepsQuiet, active_if}, Late.{HaltsOne, IsGone, halt_not_ending, halting, late_if, late_special, stop_halts, halted, ahead_halted}, Leaving.barred_leaves, Ordered.was_active, Places.{ahead, barred_sets, keeps_quiet, spent_by, still_no_fault_by, next_of}, Simulation.{followed_later, some_if, lead_by}}}
 
 -- a quiet call of q, after which its run is where p has it or ahead

@@ -1,9 +1,9 @@
 -- The states that a search keeps: no such case is over, no run has a Wake to come, and each call that continues changes
 -- something.
-use Rattle.std.proofs.{lemmas.Bool.{and_parts, not-true, or_from, or_parts, true_from_ne_false}, Common.{ℕ, ◌≡◌, ◌<◌, ◌+◌, ◌==◌, ◌&&◌, ◌||◌, inl, inr, not, Bool, true, false, Option, Some, None, List, [], ◌∷◌, length, reverse, refl, ap, sym, subst, ◌∙◌, arith}}
+use Rattle.std.proofs.{lemmas.Bool.{and_parts, not-true, or_from, or_parts, true_from_ne_false}, Common.{ℕ, ◌≡◌, ◌==◌, ◌&&◌, ◌||◌, inl, inr, not, Bool, true, false, Option, Some, None, List, [], ◌∷◌, length, reverse, refl, ap, sym, subst, ◌∙◌, arith}}
 use Rattle.tc_rules.{specs.Prelude.{Run, Comp, Entry, Op, Reply, is_ended, is_fault, Case, past_of, comp_of, started_on, first_some, is_comp, is_finish, is_stop_of, is_kill_of, is_stop_case, halts, ends_case, ends_pass, is_over, phase, answer, is_active, is_active_on, is_run_of, IsLegal, Verdict, overall, gives, local, level_of, Phase, entry_made}, proofs.Lemmas.{Deciding.{equal_if, if_same}, Going.halted_by_entry, Sound.plain_if, Decided.overall_more}}
 use Rattle.tc_step.specs.Prelude.{ScriptView}
-use Rattle.tc_course.{specs.{Prelude.{CourseState, stand, goes_on, after_other_by, IsTurn, IsCourse, IsOn}, Inside.ends}, proofs.Lemmas.{below_more, course_legal, has_turn, stand_own, stand_other, stand_comp, stand_unstarted}}
+use Rattle.tc_course.{specs.{Prelude.{CourseState, stand, goes_on, after_other_by, IsTurn, IsCourse, IsOn}, Inside.ends}, proofs.Lemmas.{course_legal, has_turn, stand_own, stand_other, stand_comp, stand_unstarted}}
 use Rattle.tc_explore.{specs.Inside.{Seen.{HasNoWake, IsCalm, IsOpen, IsState}, Simulation.{IsSilent, IsWithin}}, proofs.{Alike.ChangesNothing, Closing.{answer_inactive, loud_sets_no_wake, not_ended}, Felling.felling_halts, Late.{halt_overall, late_halts, late_reply, met_for, HaltsOne, late_for}, Leaving.running_on, Places.{Spent, how_spent, kept_left, wake_after}, Simulation.{quiet_within, unchanged_quiet, unchanged_wait, wait_kept}, Ahead.on_not_ended}}
 
 -- ---- one more entry

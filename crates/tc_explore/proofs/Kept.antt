@@ -1,8 +1,8 @@
 -- The states that a search keeps, and how many calls it counts.
-use Rattle.std.{proofs.{Common.{ℕ, ◌≡◌, ◌==◌, ◌<◌, List, [], length, get_or, replicate, set, refl, ap, sym, ◌∙◌, arith, ◌+◌, ◌≤◌, inl, inr, max, nat_eq, All, ◌∷◌, ◌++◌, map, reverse, rules, nat_cmp, subst, append-nil, ⊎_elim, Bool, true, false, length-append, Result, Ok, Err, OnOk}, lemmas.{List.{Elements.{All-map, All-nil, All-push, All-same, All-weaker}, get_or-map, get_or-replicate, get_or-set_other, get_or-set_same, length-map, length-replicate, length-set}, Bool.{cases_eq, cases_lt}, Option.slice_get-get_or}}, specs.{Cmp.Lexicographic.pointwise, List.IsDistinct, Ordering.ord_max}}
+use Rattle.std.{proofs.{Common.{ℕ, ◌≡◌, ◌<◌, List, [], length, get_or, replicate, set, refl, ap, sym, ◌∙◌, arith, ◌+◌, ◌≤◌, inl, inr, max, nat_eq, All, ◌∷◌, ◌++◌, map, reverse, rules, nat_cmp, subst, append-nil, ⊎_elim, Bool, true, false, length-append, Result, Ok, Err, OnOk}, lemmas.{List.{Elements.{All-map, All-nil, All-push, All-same, All-weaker}, get_or-map, get_or-replicate, get_or-set_other, get_or-set_same, length-map, length-replicate, length-set}, Bool.{cases_eq, cases_lt}, Option.slice_get-get_or}}, specs.{Cmp.Lexicographic.pointwise, List.IsDistinct, Ordering.ord_max}}
 use Rattle.tc_entry.specs.declared.limits.TheConstants.{BEHAVIOURS}
 use Rattle.tc_step.specs.Prelude.{ScriptView}
-use Rattle.tc_rules.specs.Prelude.{Case, past_of, Entry, Verdict}
+use Rattle.tc_rules.specs.Prelude.{Case, past_of, Entry}
 use Rattle.tc_course.specs.{Prelude.{carried_on, IsOn, IsCourse}, declared.witness.Witness.Witness}
 use Rattle.tc_explore.{specs.{Found.{AreAllMet, AreCourses, AreCovered, AreReached, Covers}, Inside.{Seen.{AreMet, IsCountedTo, IsFull, IsFurther, IsLonger, IsMetFurther, IsNoLess, IsNoted, IsPlaced, IsSameCase, IsSearch, IsSeen, IsState, IsWith, Reaches}, Twins.{AreKeyed, key_of}}, declared.{findings.Findings.Findings, search.{Met.Met, Search.Search}}}, proofs.{Keeping.state_same, Keys.{AreApart, keys_apart, seen_by_key}, Seeing.{longer_self, longer_then, met_self, met_then}}}
 

@@ -1,5 +1,5 @@
 -- The last calls of a case that is over: they are replied Ended, and after them no run has a call left.
-use Rattle.std.proofs.{lemmas.Bool.or_right, Common.{ℕ, ◌≡◌, ◌<◌, ◌≤◌, ◌+◌, ◌==◌, ◌||◌, inl, inr, Bool, true, false, Some, None, List, [], ◌∷◌, length, refl, ap, sym, subst, ◌∙◌, arith}}
+use Rattle.std.proofs.{lemmas.Bool.or_right, Common.{ℕ, ◌≡◌, ◌<◌, ◌≤◌, ◌+◌, ◌==◌, inl, inr, Bool, true, false, Some, None, List, [], ◌∷◌, length, refl, ap, sym, subst, ◌∙◌, arith}}
 use Rattle.tc_rules.{specs.Prelude.{Run, Comp, Entry, Op, Case, past_of, comp_of, is_comp, ends_case, ends_pass, is_over, IsLegal, local, local_if_any, overall, gives, answer, Reply, entry_made}, proofs.Lemmas.{Deciding.{equal_if, if_same}, Over.all_over, Decided.overall_more}}
 use Rattle.tc_step.specs.Prelude.{ScriptView}
 use Rattle.tc_course.{specs.Prelude.{CourseState, stand, after_own, turn, turn_on, steps_of, is_idle, IsTurn, IsCourse, IsComplete, IsOn, CannotGo}, proofs.Lemmas.{course_legal, has_turn, stand_own, below_more}}

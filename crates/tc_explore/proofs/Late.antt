@@ -1,5 +1,5 @@
 -- What a stop or a kill of a component does that is killed already, and a wait for it.
-use Rattle.std.proofs.{lemmas.Bool.{and_parts, not-true, or_from, false_from_ne_true}, Common.{ℕ, ◌≡◌, ◌==◌, ◌&&◌, ◌||◌, ◌⊎◌, inl, inr, not, if◌then◌else◌, Bool, true, false, Option, Some, None, List, ◌∷◌, length, refl, ap, sym, subst, ◌∙◌, arith, ⊎_elim}}
+use Rattle.std.proofs.{lemmas.Bool.{and_parts, not-true, or_from, false_from_ne_true}, Common.{ℕ, ◌≡◌, ◌==◌, ◌⊎◌, inl, inr, not, if◌then◌else◌, Bool, true, false, Option, Some, None, List, ◌∷◌, length, refl, ap, sym, subst, ◌∙◌, arith, ⊎_elim}}
 use Rattle.tc_rules.{specs.{Prelude.{Run, Comp, Entry, Op, Phase, is_ended, is_ok, is_wake, comps, comp_of, exists, is_alive_type, created, started_on, starts_on, first_some, add_new, halts, kills, ends_case, ends_pass, phase, phase_if_any, start_in, is_killed, done, killed, holds, overall, gives, special_fault, answer, plain_answer, is_active, is_active_on, is_run_of, IsLegal, level_of, Verdict, Group, Target, Reply}, Inside.Step.{next_local, next_phase}, declared.component_state.ComponentState.ComponentState}, proofs.Lemmas.{Deciding.{equal_if, ok_is, self_equal, test_by, first_alone}, Over.{stays, on_existing}, Sound.{IsPlain, no_special, plain_if, startable}, Decided.overall_more}}
 use Rattle.tc_step.specs.Prelude.{ScriptView}
 use Rattle.tc_course.specs.{Prelude.{stand, IsCourse}, Inside.{ends, wake_if}}

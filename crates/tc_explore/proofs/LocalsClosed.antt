@@ -1,11 +1,11 @@
 -- If what comes after each state that a search for local verdicts has seen is seen, or found, it has found the local
 -- verdicts of each complete course.
-use Rattle.std.proofs.Common.{ℕ, ◌≡◌, ◌+◌, ◌*◌, ◌<◌, ◌≤◌, ◌++◌, nat_eq, All, Bool, true, false, Some, None, List, [], ◌∷◌, length, map, reverse, slice_get, get_or, refl, ap, sym, subst, ◌∙◌, arith}
+use Rattle.std.proofs.Common.{ℕ, ◌≡◌, ◌+◌, ◌*◌, ◌<◌, ◌≤◌, nat_eq, Bool, true, false, Some, None, List, [], ◌∷◌, length, map, reverse, slice_get, get_or, refl, ap, sym, subst, ◌∙◌, arith}
 use Rattle.std.{specs.{Cmp.Lexicographic.pointwise, List.IsDistinct, Option.unwrap_or}, proofs.lemmas.{List.Elements.All-weaker, Option.{get_or_from_slice_get, slice_get-get_or, slice_get_within}}}
 use Rattle.tc_entry.specs.declared.limits.TheConstants.{BEHAVIOURS}
 use Rattle.tc_rules.{specs.Prelude.{Run, level_of, Comp, Entry, Op, Case, past_of, ends_case, is_over, is_active, Reply, entry_made}, proofs.Lemmas.Over.all_over}
 use Rattle.tc_step.specs.Prelude.{ScriptView}
-use Rattle.tc_course.{specs.{Prelude.{stand, steps_of, turn, IsTurn, IsCourse, IsComplete, IsOn, CannotGo, is_local}, Inside.call_of}, proofs.Lemmas.{below_more, course_legal, run_in_range, stand_comp, turn_of}}
+use Rattle.tc_course.{specs.{Prelude.{stand, steps_of, turn, IsTurn, IsCourse, IsComplete, is_local}, Inside.call_of}, proofs.Lemmas.{below_more, course_legal, run_in_range, stand_comp, turn_of}}
 use Rattle.tc_explore.{specs.{Found.{AllLocalsFound, AreLocals, HasCourses}, Inside.{Locals.{AreLocalsClosed, AreLocalsRuns, IsLocalFurther, IsLocalSearch, IsLocalsAfter, IsLocalsRun, IsTwinSeen}, Seen.{IsMetFurther, IsPlaced, IsSameCase}, Twins.{HasLocals, IsGoing, IsMore, IsTwin, key_of}}, declared.{marks.Marks.Marks, search.Met.Met, search_locals.LocalSearch.LocalSearch}}, proofs.{Alike.active_alike, Closed.{on_copied, same_entry, with_copied}, Closing.answer_inactive, Keeping.{active_stays, comp_main, main_goes}, Kept.{all_with, are_none, courses_of, no_courses, placed_further, placed_met}, LastCalls.locals_ended, Marking.none_sound, Seeing.{at_longer, get_longer, met_self, met_then}, Simulation.some_if, TwinKeys.seen_by_twin_key, Twins.{locals_twin, matched, twin_ended, twin_then}}}
 
 -- ---- all courses

@@ -1,5 +1,5 @@
 -- Witnesses of which no verdict has two. Each is a legal history.
-use Rattle.std.{proofs.{lemmas.{Bool.{Decides.nat_tests, cases_order, false_from_ne_true}, List.{Elements.All-push, Sorted.{All-permutation, list_any-IsPermutation}, get_or_append_left, Folds.list_any_at}, Map.Keys.{IsDistinct-IsPermutation, IsDistinct-from_apart, apart_from_distinct}}, Common.{ℕ, ◌≡◌, ◌==◌, ◌<◌, ◌≤◌, ◌||◌, Bool, true, false, nat_lt, List, [], ◌∷◌, ◌++◌, length, reverse, get_or, refl, ap, sym, ◌∙◌, arith, length-append, ⊎_elim}, Math.Seq.get_or-append_seam}, specs.List.{IsDistinct, Sorted.{IsNonDecreasingBy, IsPermutation}}}
+use Rattle.std.{proofs.{lemmas.{Bool.{Decides.nat_tests, cases_order, false_from_ne_true}, List.{Elements.All-push, Sorted.{All-permutation, list_any-IsPermutation}, get_or_append_left, Folds.list_any_at}, Map.Keys.{IsDistinct-IsPermutation, IsDistinct-from_apart, apart_from_distinct}}, Common.{ℕ, ◌≡◌, ◌==◌, ◌<◌, ◌≤◌, Bool, true, false, nat_lt, List, [], ◌∷◌, ◌++◌, length, reverse, get_or, refl, ap, sym, ◌∙◌, arith, length-append, ⊎_elim}, Math.Seq.get_or-append_seam}, specs.List.{IsDistinct, Sorted.{IsNonDecreasingBy, IsPermutation}}}
 use Rattle.tc_rules.{specs.Prelude.{Verdict, level_of}, proofs.Lemmas.Deciding.{equal_if, self_equal}}
 use Rattle.tc_step.specs.Prelude.{ScriptView}
 use Rattle.tc_course.{specs.{declared.witness.Witness.Witness, Prelude.{IsWitness, AllFound, is_found, AreLegal, AreWitnesses}}, proofs.Lemmas.course_legal}

@@ -1,5 +1,5 @@
 -- A case in which no run can continue: each that is running is parked, and the main component's Wake is an error.
-use Rattle.std.proofs.{Common.{ℕ, ◌≡◌, ◌<◌, ◌≤◌, ◌+◌, ◌==◌, ◌⊎◌, inl, inr, if◌then◌else◌, Bool, true, false, Option, Some, None, List, [], ◌∷◌, length, slice_get, slice_index_or, refl, ap, sym, subst, ◌∙◌, arith, get_or}, lemmas.{Bool.false_from_ne_true, List.Sums.list_all-from_AllPass}}
+use Rattle.std.proofs.{Common.{ℕ, ◌≡◌, ◌<◌, ◌≤◌, ◌+◌, ◌==◌, ◌⊎◌, inl, inr, if◌then◌else◌, Bool, true, false, Option, Some, None, List, ◌∷◌, length, slice_get, slice_index_or, refl, ap, sym, subst, ◌∙◌, arith, get_or}, lemmas.{Bool.false_from_ne_true, List.Sums.list_all-from_AllPass}}
 use Rattle.tc_rules.{specs.Prelude.{Run, Comp, Entry, Op, Target, Phase, Reply, Fault, is_ended, is_fault, is_wake, Case, past_of, comps, comp_of, is_alive_type, is_over, phase, last_run, was_killed, was_halted, overall, holds, waiting, waits_in_vain, is_still, is_stuck, fault, answer, plain_answer, is_active, is_run_of, IsLegal, Verdict}, proofs.Lemmas.{Deciding.{equal_if, self_equal}, Going.last_on_it, Steps.phase_by, Decided.overall_more}}
 use Rattle.tc_step.specs.Prelude.{ScriptView}
 use Rattle.tc_course.{specs.{Inside.{call_of, one_more_if}, Prelude.{CourseState, stand, goes_on, carried_on, turn, steps_of, IsTurn, IsCourse, is_found, IsOn}}, proofs.Lemmas.{course_legal, other_not_idle, has_turn, turn_of, never_wake, stand_own, stand_other, stand_comp, run_in_range, below_more}}

@@ -1,5 +1,5 @@
 -- What one more quiet call of a search represents.
-use Rattle.std.proofs.{lemmas.{Bool.{and_parts, or_parts, not-true, or_cases}, List.length-reverse}, Common.{ℕ, ◌≡◌, ◌==◌, ◌&&◌, ◌||◌, not, nat_lt, Option, inl, inr, true, false, None, Some, List, [], ◌∷◌, ◌++◌, length, refl, ap, sym, subst, ◌∙◌, append_assoc, length-append, arith, ◌≤◌, if◌then◌else◌, ⊎_elim}}
+use Rattle.std.proofs.{lemmas.{Bool.{and_parts, or_parts, not-true, or_cases}, List.length-reverse}, Common.{ℕ, ◌≡◌, ◌==◌, ◌&&◌, not, nat_lt, Option, inl, inr, true, false, None, Some, List, [], ◌∷◌, ◌++◌, length, refl, ap, sym, subst, ◌∙◌, append_assoc, length-append, arith, ◌≤◌, ⊎_elim}}
 use Rattle.tc_rules.{specs.Prelude.{Run, Comp, Entry, Op, Phase, phase, phase_if_any, created, is_ended, is_fault, is_wake, Case, past_of, comp_of, is_alive_type, is_comp, exists, overall, answer, Verdict, Group, Reply, entry_made, IsLegal}, proofs.Lemmas.{Deciding.{equal_if, test_by}, Sound.{plain_if, IsPlain}}}
 use Rattle.tc_step.specs.Prelude.{ScriptView}
 use Rattle.tc_course.{specs.{Inside.{ends, wake_if}, Prelude.{stand, IsTurn, IsCourse, turn, IsOn}}, proofs.Lemmas.{course_legal, stand_comp}}

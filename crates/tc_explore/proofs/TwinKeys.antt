@@ -1,5 +1,5 @@
 -- Two courses of one key of a search for local verdicts are twins.
-use Rattle.std.proofs.{Common.{ℕ, ◌≡◌, ◌==◌, ◌+◌, ◌<◌, ◌≤◌, ◌++◌, nat_lt, if◌then◌else◌, Bool, true, false, Option, Some, None, All, List, [], ◌∷◌, length, refl, ap, sym, subst, ◌∙◌, arith}, lemmas.{Bool.{Decides.nat_tests, cond_both}, Option.{get_or_from_slice_get, slice_get_within}}}
+use Rattle.std.proofs.{Common.{ℕ, ◌≡◌, ◌==◌, ◌<◌, ◌≤◌, nat_lt, if◌then◌else◌, Bool, true, false, Option, Some, None, All, List, [], ◌∷◌, length, refl, ap, sym, subst, ◌∙◌, arith}, lemmas.{Bool.{Decides.nat_tests, cond_both}, Option.{get_or_from_slice_get, slice_get_within}}}
 use Rattle.tc_rules.specs.{Prelude.{Verdict, Entry, Op, Reply, Case, past_of, components, exists, local, local_if_any, is_active, is_wake, Target}, declared.component_state.ComponentState.ComponentState}
 use Rattle.tc_step.specs.Prelude.{ScriptView}
 use Rattle.tc_course.{specs.{Prelude.{stand, IsCourse}, Inside.wake_if}, proofs.Lemmas.{course_legal, run_in_range}}

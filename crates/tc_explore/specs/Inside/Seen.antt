@@ -1,10 +1,10 @@
 -- The states that a search has seen.
-use Rattle.std.specs.Prelude.{ℕ, ◌⊎◌, List, ◌∷◌, ◌≡◌, true, false, ◌<◌, length, slice_index_or, ◌≤◌, ◌&&◌, nat_le, ◌-◌, if◌then◌else◌, Bool, Option, None, Some, [], ◌++◌, map, slice_get, All}
+use Rattle.std.specs.Prelude.{ℕ, ◌⊎◌, List, ◌∷◌, ◌≡◌, true, false, ◌<◌, length, slice_index_or, ◌≤◌, ◌&&◌, nat_le, ◌-◌, if◌then◌else◌, Bool, Option, None, Some, [], ◌++◌, slice_get, All}
 use Rattle.tc_entry.specs.declared.limits.TheConstants.{BEHAVIOURS}
-use Rattle.tc_rules.specs.Prelude.{Entry, local_if_any, is_active, Run, Verdict, level_of, Op, is_fault, Case, past_of, is_over, overall, answer, entry_made}
+use Rattle.tc_rules.specs.Prelude.{Entry, local_if_any, is_active, Verdict, level_of, Op, is_fault, Case, past_of, is_over, overall, answer}
 use Rattle.tc_step.specs.Prelude.{ScriptView}
 use Rattle.tc_course.specs.{declared.witness.Witness.Witness, Prelude.{carried_on, IsTurn, IsCourse, CannotGo, AreWitnesses, AllFound, IsWitness, is_found, stand, goes_on, IsOn}}
-use Rattle.tc_explore.specs.{Found.{AreAllMet, AreCovered, AreReached, Covers}, Inside.{Simulation.{IsAlike, IsClosed, IsClosedFor, IsCovered, IsFor, IsWithin, is_silent, is_spent}, Twins.{AreKeyed, IsKnown, key_of}}, declared.{findings.Findings.Findings, search.{Met.Met, Search.Search, Searched.Searched}}}
+use Rattle.tc_explore.specs.{Found.{AreAllMet, AreCovered, AreReached, Covers}, Inside.{Simulation.{IsAlike, IsClosed, IsClosedFor, IsFor, IsWithin, is_silent, is_spent}, Twins.{AreKeyed, IsKnown, key_of}}, declared.{findings.Findings.Findings, search.{Met.Met, Search.Search, Searched.Searched}}}
 
 -- the next call of run b is made, if it can continue
 abbrev pub IsStepped : List ScriptView → List Entry → List Entry → ℕ → Type 0

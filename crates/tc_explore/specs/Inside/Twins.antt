@@ -1,7 +1,7 @@
 -- Courses of which the same is known, local verdicts and waits included, and what a search for local verdicts keeps.
-use Rattle.std.specs.{Prelude.{ℕ, ◌+◌, ◌∷◌, ◌++◌, if◌then◌else◌, Bool, true, false, Option, Some, None, List, [], length, map, ◌≡◌, ◌==◌, ◌<◌, ◌≤◌, All, slice_get, slice_index_or}, List.{flat_map, range_with_len}}
+use Rattle.std.specs.{Prelude.{ℕ, ◌+◌, ◌∷◌, ◌++◌, if◌then◌else◌, Bool, true, false, Option, Some, None, List, [], length, map, ◌≡◌, ◌==◌, slice_get, slice_index_or}, List.{flat_map, range_with_len}}
 use Rattle.tc_rules.specs.Prelude.{level_of, Comp, Entry, Phase, is_alive_type, phase_if_any, overall, components, is_active, Verdict, Op, Target, Case, past_of, is_over, local, local_if_any}
-use Rattle.tc_course.specs.Prelude.{CourseState, stand, IsTurn, IsOn, is_local}
+use Rattle.tc_course.specs.Prelude.{CourseState, stand, IsOn, is_local}
 use Rattle.tc_step.specs.Prelude.{ScriptView}
 use Rattle.tc_explore.specs.{Inside.Simulation.IsAlike, declared.search.Met.Met}
 

@@ -1,5 +1,4 @@
 use Rattle.std.proofs.Common.{rules, ◌≡◌, length, sym, subst}
-use Rattle.tc_rules.specs.Prelude.{past_of}
 use Rattle.tc_explore.{specs.Inside.Seen.IsCalm, proofs.Searching.{same_length, stands_then}}
 use Rattle.tc_explore.proofs.calm.calmed.Goals as goal
 

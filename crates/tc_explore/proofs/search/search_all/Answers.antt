@@ -1,5 +1,4 @@
-use Rattle.std.proofs.Common.{rules, ◌≡◌, ◌+◌, ◌<◌, ◌≤◌, ◌∙◌, false, length, subst, arith}
-use Rattle.tc_rules.specs.Prelude.{past_of}
+use Rattle.std.proofs.Common.{rules, ◌<◌, ◌≤◌, ◌∙◌, false, length, subst, arith}
 use Rattle.tc_explore.{specs.Found.AreAllMet, proofs.{Keeping.within_opening, Kept.{further_then, met_full, met_of, met_within}, States.{all_told, closed_more}}}
 use Rattle.tc_explore.proofs.search.search_all.Goals as goal
 

@@ -1,4 +1,4 @@
-use Rattle.std.proofs.Common.{ℕ, ◌-◌}
+use Rattle.std.proofs.Common.{◌-◌}
 use Rattle.tc_explore.specs.Inside.Seen.{AreClosed, IsFurther}
 use Rattle.tc_explore.proofs.search.search_all.Given as goal
 

@@ -1,4 +1,4 @@
-use Rattle.std.proofs.Common.{rules, ◌≡◌, ◌+◌, ◌<◌, ◌≤◌, ◌∙◌, [], true, length, refl, ap, sym, subst, arith}
+use Rattle.std.proofs.Common.{rules, ◌<◌, ◌≤◌, ◌∙◌, [], true, length, refl, ap, sym, subst, arith}
 use Rattle.tc_rules.specs.Prelude.{past_of, is_over}
 use Rattle.tc_course.{specs.Prelude.IsOn, proofs.Lemmas.turn_rules}
 use Rattle.tc_explore.{specs.{Found.{AllLocalsFound, AreLocals, HasCourses}, Inside.{Locals.{AreLocalsRuns, IsTwinSeen}}, declared.search_locals.LocalSearch.LocalSearch}, proofs.{Kept.{met_full, met_within}, LocalsClosed.{all_locals_found, courses_met, local_none, local_placed, locals_more, twin_further}}}

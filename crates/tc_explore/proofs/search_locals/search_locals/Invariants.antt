@@ -1,4 +1,4 @@
-use Rattle.std.proofs.Common.{ℕ, ◌≡◌, ◌-◌, []}
+use Rattle.std.proofs.Common.{◌≡◌, ◌-◌, []}
 use Rattle.tc_explore.specs.Inside.Locals.{AreLocalsClosed, IsLocalSearch, IsTwinSeen}
 use Rattle.tc_explore.proofs.search_locals.search_locals.Given as goal
 

@@ -1,6 +1,6 @@
 use Rattle.std.{specs.{Cmp.Lexicographic.pointwise, List.list_any}, proofs.Common.{rules, ℕ, List, refl, inl, ◌≡◌, ◌∷◌, ◌++◌, ◌∙◌, ◌<◌, [], true, false, nat_eq, length, reverse, ap, sym, arith, length-append}}
 use Rattle.tc_rules.specs.Prelude.{past_of}
-use Rattle.tc_explore.{specs.Inside.Twins.{IsKnown, key_of}, proofs.{Keys.{key_found, keyed_more}, Kept.with_one, Seeing.get_last}}
+use Rattle.tc_explore.{specs.Inside.Twins.{key_of}, proofs.{Keys.{key_found, keyed_more}, Kept.with_one, Seeing.get_last}}
 use Rattle.tc_explore.proofs.search.Met.place.Goals as goal
 
 pub returns-then-contains : goal.returns-then-contains

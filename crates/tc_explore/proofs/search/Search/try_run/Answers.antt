@@ -1,6 +1,6 @@
 use Rattle.std.proofs.Common.{rules, ◌≡◌, ◌<◌, true, false, length, arith}
-use Rattle.tc_rules.specs.Prelude.{past_of, is_over, level_of, overall, answer, entry_made}
-use Rattle.tc_course.specs.Prelude.{goes_on, IsTurn}
+use Rattle.tc_rules.specs.Prelude.{past_of, is_over, level_of, overall, entry_made}
+use Rattle.tc_course.specs.Prelude.{IsTurn}
 use Rattle.tc_explore.{specs.{Inside.Seen.IsState, declared.search.Search.Search}, proofs.{Closed.run_closed, Kept.noted_further}}
 use Rattle.tc_explore.proofs.search.Search.try_run.Goals as goal
 

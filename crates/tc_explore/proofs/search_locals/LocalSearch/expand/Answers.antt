@@ -1,4 +1,3 @@
-use Rattle.std.proofs.Common.{subst}
 use Rattle.tc_rules.specs.Prelude.{past_of}
 use Rattle.tc_course.proofs.Lemmas.{below_more}
 use Rattle.tc_explore.{specs.Inside.Locals.IsLocalsRun, proofs.LocalsClosed.{local_then, run_further}}
