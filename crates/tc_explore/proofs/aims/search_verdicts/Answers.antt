@@ -1,5 +1,5 @@
-use Rattle.std.proofs.Common.{rules, ◌≡◌, true, false, None, Some, arith}
-use Rattle.tc_explore.{specs.Inside.Seen.next_aim, proofs.{Kept.{met_max, met_more, most_of}, NextAim.{above_all, above_next}}}
+use Rattle.std.proofs.Common.{rules, ◌≡◌, true, None, Some, arith}
+use Rattle.tc_explore.{specs.Inside.Seen.next_aim, proofs.{Kept.{met_max, most_of}, NextAim.{above_all, above_next}}}
 use Rattle.tc_explore.proofs.aims.search_verdicts.Goals as goal
 
 pub loop-searched-preserved : goal.loop-searched-preserved
@@ -15,22 +15,6 @@ loop-searched-preserved c =
       above = above_next c.args.scripts.now c.loop-searched.found.witnesses.items s.found.witnesses.items c.loop-searched.aim c.in-Some.better now.more_found was.above (now.complete whole) is;
       met = met_max c.args.scripts.now c.loop-searched.found.reached.items s.found.reached.items c.loop-searched.states s.states c.max-states.result most now.more was.met now.met;
       within = omega (arith, most, was.within, now.within);
-    }
-
-pub returns-then-not-searched-clause-searched : goal.returns-then-not-searched-clause-searched
-returns-then-not-searched-clause-searched c =
-    let was = c.loop-searched.invariant in
-    let s = c.in_ok-searched.searched in
-    let now = c.in_ok-searched.ensures in
-    let part : c.in_ok-searched.searched.is_whole ≡ false = search rules in
-    let most = most_of c.loop-searched.states s.states c.max-states.result c.max-states.ensures in
-    record {
-      noted = c.in_ok-note_straight.ensures.found;
-      met = met_more c.args.scripts.now s.found.reached.items c.note_straight.new.found.reached.items c.max-states.result c.in_ok-note_straight.ensures.more
-          (met_max c.args.scripts.now c.loop-searched.found.reached.items s.found.reached.items c.loop-searched.states s.states c.max-states.result most now.more was.met now.met);
-      complete = λ h. absurd cc;
-      within = omega (arith, most, was.within, now.within);
-      full = λ h. omega (arith, most, was.within, now.full part);
     }
 
 pub returns-in-None-clause-searched : goal.returns-in-None-clause-searched

@@ -1,23 +1,7 @@
-use Rattle.std.proofs.Common.{rules, ◌<◌, ◌≤◌, ◌∙◌, [], true, length, refl, ap, sym, subst, arith}
-use Rattle.tc_rules.specs.Prelude.{past_of, is_over}
-use Rattle.tc_course.{specs.Prelude.IsOn, proofs.Lemmas.turn_rules}
-use Rattle.tc_explore.{specs.{Found.{AllLocalsFound, AreLocals, HasCourses}, Inside.{Locals.{AreLocalsRuns, IsTwinSeen}}, declared.search_locals.LocalSearch.LocalSearch}, proofs.{Kept.{met_full, met_within}, LocalsClosed.{all_locals_found, courses_met, local_none, local_placed, locals_more, twin_further}}}
+use Rattle.std.proofs.Common.{rules, ◌<◌, ◌≤◌, ◌∙◌, [], true, length, sym, subst, arith}
+use Rattle.tc_rules.specs.Prelude.{past_of}
+use Rattle.tc_explore.{specs.{Found.{AllLocalsFound, HasCourses}, Inside.{Locals.{AreLocalsRuns}}}, proofs.{Kept.{met_full, met_within}, LocalsClosed.{all_locals_found, courses_met, locals_more, twin_further}}}
 use Rattle.tc_explore.proofs.search_locals.search_locals.Goals as goal
-
-pub loop-at-init : goal.loop-at-init
-loop-at-init c =
-    let opening = c.in_ok-opening.field-0 in
-    let z : LocalSearch = record { met = record { alloc = c.args.alloc; scripts = c.args.scripts; states = c.new.result; keys = c.new-2.result; limit = c.args.most.states; is_whole = true }; marks = c.new-3.result } in
-    let none = local_none z c.requires.some c.requires.few c.new.ensures.items c.new-2.ensures.empty refl c.new-3.ensures in
-    let on : IsOn c.args.scripts.now c.in_ok-opening.field-0 = search (rules, turn_rules) in
-    let one = local_placed z opening c.place-2.new.self none (record { on = on; going = ap is_over c.in_ok-opening.ensures.opening }) c.in_ok-place.ensures in
-    record {
-      search = one.0.search;
-      scripts = one.0.met.scripts;
-      limit = one.0.met.limit;
-      seen = subst (IsTwinSeen c.place-2.new.self) c.in_ok-opening.ensures.opening one.1;
-      closed = λ i less. absurd (omega arith);
-    }
 
 pub loop-at-preserved : goal.loop-at-preserved
 loop-at-preserved c =
@@ -33,10 +17,6 @@ loop-at-preserved c =
       closed = locals_more c.loop-at.search c.expand.new.self c.loop-at.at c.in_ok-course.course c.index.result.now f within c.in_ok-course.ensures.entries c.index.ensures was.closed
           (subst (λ sc. AreLocalsRuns c.expand.new.self (past_of c.in_ok-course.course) (length sc)) (sym f.met.scripts) is.closed);
     }
-
-pub returns-clause-sound : goal.returns-clause-sound
-returns-clause-sound c =
-    rw c.new-4.ensures (subst (λ sc. AreLocals sc c.loop-at.search.marks.found.items) c.loop-at.invariant.scripts c.loop-at.invariant.search.sound)
 
 pub returns-clause-complete : goal.returns-clause-complete
 returns-clause-complete c h =
