@@ -1,10 +1,11 @@
 -- What holds of a history that is ahead of another by the ends of runs.
-use Rattle.std.{proofs.{lemmas.Bool.{or_right, false_from_ne_true, or_left, or_cases, and_parts, and_from, cases_Bool}, Common.{ℕ, ◌≡◌, ◌==◌, ◌&&◌, ◌⊎◌, inl, inr, not, if◌then◌else◌, nat_le, Bool, true, false, Option, Some, None, is_some, MatchOption, List, [], ◌∷◌, length, drop, refl, ap, sym, subst, ◌∙◌, ◌≤◌, arith, ⊎_elim}}, specs.List.{list_any, list_all}}
+use Rattle.std.proofs.lemmas.Grind.{common_steps}
+use Rattle.std.{proofs.{lemmas.Bool.{or_right, false_from_ne_true, or_left, or_cases, and_parts, and_from, cases_Bool}, Common.{ℕ, ◌≡◌, ◌==◌, ◌&&◌, ◌⊎◌, inl, inr, not, if◌then◌else◌, nat_le, Bool, true, false, Option, Some, None, is_some, List, [], ◌∷◌, length, drop, refl, ap, sym, subst, ◌∙◌, ◌≤◌, arith, ⊎_elim}}, specs.List.{list_any, list_all}}
 use Rattle.tc_rules.{specs.{Prelude.{Run, Comp, Entry, Op, Target, Phase, Reply, is_ended, is_fault, comp_of, ptcs, exists, is_in, created, add_new, halts, kills, phase, start_in, done, killed, is_running, is_killed, is_done, gives, overall, holds, fault, names, all_exist, asks_many, special_fault, start_fault, components, answer, plain_answer, is_active, is_active_on, is_run_of, IsLegal, level_of, Verdict, Fault, is_alive_type}, Inside.Step.next_phase, declared.awaited.Awaited.Awaited}, proofs.Lemmas.{Deciding.{equal_if, self_equal}, Going.starts_still, Keeping.all_exist_same, Over.on_existing, Sound.plain_if, Decided.overall_more}}
 use Rattle.tc_entry.specs.declared.limits.TheConstants.{COMPONENTS}
 use Rattle.tc_step.specs.Prelude.{ScriptView}
 use Rattle.tc_course.{specs.Prelude.{CourseState, stand, goes_on, IsCourse}, proofs.Lemmas.{stand_comp, stand_other}}
-use Rattle.tc_explore.{specs.Inside.Simulation.{IsAlike, IsQuietAt, call_at, IsLastAt, WasParked, IsLeaving, IsEnding, IsAhead}, proofs.Alike.{is_plain_call, phase_next, next_no_better, none_unless}}
+use Rattle.tc_explore.{specs.Inside.Simulation.{IsAlike, IsQuietAt, IsLeaving, IsEnding, IsAhead}, proofs.Alike.{is_plain_call, phase_next, next_no_better, none_unless}}
 
 -- ---- waits
 
@@ -72,13 +73,7 @@ module _ {aim : Verdict} {scripts : List ScriptView} {p q : List Entry} where
 
   pub active_back : IsAhead aim scripts p q → (b : ℕ) → is_active q b ≡ true → is_active p b ≡ true
   unfolding is_active
-  active_back s b h = ap (is_active_on p b) (s.comp_same b) ∙ by_comp (comp_of q b) h
-    where
-      by_comp : (o : Option Comp) → is_active_on q b o ≡ true → is_active_on p b o ≡ true
-      by_comp None k = absurd cc
-      by_comp (Some c) k =
-          ⊎_elim (λ (e : phase p c.0 ≡ phase q c.0). ap (is_run_of b) e ∙ k)
-          (λ (n : IsEnding aim scripts p q c.0). let off : is_run_of b (phase q c.0) ≡ false = ap (is_run_of b) n.ended in absurd cc) (s.phases c.0)
+  active_back s b h = grind (arith, common_steps)
 
   pub active_forth : IsAhead aim scripts p q → (b : ℕ) → is_active p b ≡ true → (is_active q b ≡ true) ⊎ ((c : ℕ) × (n : IsEnding aim scripts p q c) × (n.run.0 ≡ b))
   unfolding is_active
@@ -113,9 +108,7 @@ some_if_all false false x y f g h = h
 module _ {aim : Verdict} {scripts : List ScriptView} {p q : List Entry} where
   start_ahead : IsAhead aim scripts p q → (n c b : ℕ) → is_some (start_fault n p c b) ≡ is_some (start_fault n q c b)
   unfolding start_fault
-  start_ahead s n c b =
-      ⊎_elim (λ (e : phase p c ≡ phase q c). rw (e, s.comp_same b) refl)
-      (λ (m : IsEnding aim scripts p q c). rw (m.running, m.ended) (some_if_both (c == 0) Fault.StartMain Fault.AlreadyRunning Fault.NotStartable)) (s.phases c)
+  start_ahead s n c b = grind (arith, common_steps)
 
   special_ahead : IsAhead aim scripts p q → (n : ℕ) (op : Op) → is_some (special_fault n p op) ≡ is_some (special_fault n q op)
   unfolding components
@@ -166,15 +159,7 @@ abbrev pub KeepsQuiet : ℕ → List Entry → List Entry → Type 0
 KeepsQuiet n q r = (b : ℕ) (op : Op) → IsQuietAt n q b op → IsQuietAt n r b op
 
 pub leaving_later : {aim : Verdict} (scripts : List ScriptView) (q r : List Entry) (b : ℕ) (s : CourseState) → KeepsQuiet (length scripts) q r → IsLeaving aim scripts q b s → IsLeaving aim scripts r b s
-leaving_later {aim} scripts q r b s keeps l = record { parked = by_wake s.wake l.parked; calls = λ k m. ⊎_elim (λ last. inl (by_call (call_at scripts b s s.comp k) last)) inr (l.calls k m) }
-  where
-    by_wake : (o : Option Op) → MatchOption o (Unit {0}) (λ wake. WasParked scripts q b s wake) → MatchOption o (Unit {0}) (λ wake. WasParked scripts r b s wake)
-    by_wake None h = tt
-    by_wake (Some wake) h = record { place = h.place; one_more = h.one_more; wake_of = h.wake_of; quiet = keeps b (call_at scripts b s s.comp h.place) h.quiet }
-
-    by_call : (op : Op) → IsLastAt (length scripts) q b op → IsLastAt (length scripts) r b op
-    by_call op (inl h) = inl (keeps b op h)
-    by_call op (inr h) = inr h
+leaving_later {aim} scripts q r b s keeps l = grind (arith, common_steps)
 
 pub ahead_self : {aim : Verdict} (scripts : List ScriptView) (p : List Entry) → IsAhead aim scripts p p
 ahead_self scripts p = record { comps_same = refl; phases = λ c. inl refl; kind_same = λ c. refl; comp_same = λ b. refl; no_better = omega arith }

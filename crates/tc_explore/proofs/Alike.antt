@@ -1,5 +1,6 @@
 -- Histories that are alike are answered alike, except for questions, and are alike after the same entry.
-use Rattle.std.{proofs.{lemmas.Bool.{or_parts, or_right, false_from_ne_true}, Common.{ℕ, ◌≡◌, ◌==◌, ◌&&◌, not, if◌then◌else◌, nat_lt, Bool, true, false, Option, Some, None, is_some, List, [], ◌∷◌, ◌++◌, length, drop, refl, ap, sym, ◌∙◌, arith, ◌≤◌}}, specs.List.{list_any, list_all}}
+use Rattle.std.proofs.lemmas.Grind.{common_steps}
+use Rattle.std.{proofs.{lemmas.Bool.{or_parts, or_right, false_from_ne_true}, Common.{ℕ, ◌≡◌, ◌==◌, ◌&&◌, not, if◌then◌else◌, Bool, true, false, Option, Some, None, is_some, List, [], ◌∷◌, ◌++◌, length, drop, refl, ap, sym, ◌∙◌, arith, ◌≤◌}}, specs.List.{list_any, list_all}}
 use Rattle.tc_rules.{specs.{Prelude.{Verdict, worse, worst, level_of, Comp, Entry, Op, Target, Phase, comps, comp_of, ptcs, exists, is_in, is_comp, is_alive_type, created, started_on, first_some, add_new, halts, kills, phase, phase_if_any, start_in, done, killed, is_running, is_killed, is_done, local, overall, gives, verdicts_of, holds, fault, names, special_fault, start_fault, components, is_active, is_active_on, is_run_of, IsLegal, Group}, Inside.{Kept.{blank, state_of}, Step.{next_local, next_phase, next_state}}, declared.{awaited.Awaited.Awaited, component_state.ComponentState.ComponentState}}, proofs.Lemmas.{Deciding.{equal_if, self_equal, first_alone}, Fresh.fresh_step, Keeping.{all_exist_same, kill_halts}, LawsOfHistories.killed_was_halted, Sound.starts, Steps.state_step, Decided.{overall_more, no_better, not_on, not_before}}}
 use Rattle.tc_verdict.proofs.Lemmas.Order.{worse_left, worse_right}
 use Rattle.tc_explore.specs.Inside.Simulation.{IsAlike, is_gone, is_late, is_met}
@@ -19,12 +20,7 @@ all_same f g [] h = refl
 all_same f g (x ∷ xs) h = rw (h x, all_same f g xs h)
 
 pub alike_sym : (p q : List Entry) → IsAlike p q → IsAlike q p
-alike_sym p q a = record {
-  comps_same = sym a.comps_same;
-  phase_same = λ c. sym (a.phase_same c);
-  kind_same = λ c. sym (a.kind_same c);
-  comp_same = λ b. sym (a.comp_same b);
-}
+alike_sym p q a = grind (arith, common_steps)
 
 module _ {p q : List Entry} where
   ptcs_same : IsAlike p q → ptcs p ≡ ptcs q
@@ -161,11 +157,7 @@ unfolding local
 local_next past e c = local_by (is_comp (comp_of past e.caller.0) c) (gives e.op e.reply) (verdicts_of past c)
 
 pub worse_most : (a v : Verdict) (n : ℕ) → level_of a ≤ n → level_of v ≤ n → level_of (worse a v) ≤ n
-worse_most a v n k l = by_test (nat_lt (level_of a) (level_of v))
-  where
-    by_test : (t : Bool) → level_of (if t then v else a) ≤ n
-    by_test true = l
-    by_test false = k
+worse_most a v n k l = grind (arith, common_steps)
 
 pub overall_grows : (n : ℕ) (past : List Entry) (e : Entry) → IsLegal n (e ∷ past) → level_of (overall past) ≤ level_of (overall (e ∷ past))
 overall_grows n past e legal = rw (overall_more n past e legal) (no_better (gives e.op e.reply) (overall past))

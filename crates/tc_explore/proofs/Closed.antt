@@ -1,22 +1,19 @@
 -- When what comes after a state is seen, or its verdict is found.
-use Rattle.std.proofs.Common.{Bool, ℕ, ◌≡◌, ◌+◌, ◌-◌, ◌<◌, ◌≤◌, true, false, Some, List, ◌∷◌, length, reverse, refl, ap, sym, subst, ◌∙◌, arith}
+use Rattle.std.proofs.lemmas.Grind.{common_steps}
+use Rattle.std.proofs.Common.{Bool, ℕ, ◌≡◌, ◌+◌, ◌-◌, ◌<◌, ◌≤◌, true, false, List, ◌∷◌, length, refl, ap, sym, subst, ◌∙◌, arith}
 use Rattle.tc_rules.specs.Prelude.{Run, Entry, Op, Reply, is_fault, Case, past_of, is_over, overall, answer, Verdict, entry_made}
 use Rattle.tc_step.specs.Prelude.{ScriptView}
-use Rattle.tc_course.{specs.{Prelude.{is_found, goes_on, turn, IsTurn, IsCourse, IsOn, CannotGo}}, proofs.Lemmas.below_more}
+use Rattle.tc_course.{specs.{Prelude.{is_found, goes_on, turn, IsTurn, IsOn, CannotGo}}, proofs.Lemmas.below_more}
 use Rattle.tc_explore.{specs.{Inside.{Seen.{AreHeld, AreStill, IsCalm, IsFurther, IsHeldAt, IsRunClosed, IsSeen, IsState, IsStillAt, run_at}, Simulation.{GoesOn, IsClosedFor, IsCovered, IsWithin}}, declared.search.Search.Search}, proofs.Seeing.closed_for_further}
 
 -- what a copy of a course has called, it has called
 pub with_copied : (t u v : Case) (run : Run) (op : Op) → u.behaviours ≡ t.behaviours → u.history ≡ t.history → past_of v ≡ entry_made u.behaviours (past_of u) run op ∷ past_of u →
     past_of v ≡ entry_made t.behaviours (past_of t) run op ∷ past_of t
-with_copied t u v run op n h is =
-    let past : past_of u ≡ past_of t = ap reverse h in
-    is ∙ (ap (λ m. entry_made m (past_of u) run op ∷ past_of u) n ∙ ap (λ x. entry_made t.behaviours x run op ∷ x) past)
+with_copied t u v run op n h is = grind (arith, common_steps)
 
 pub on_copied : (scripts : List ScriptView) (t u v : Case) (run : Run) (op : Op) → IsOn scripts t → u.behaviours ≡ t.behaviours → u.history ≡ t.history → v.behaviours ≡ u.behaviours →
     past_of v ≡ entry_made u.behaviours (past_of u) run op ∷ past_of u → IsTurn scripts (past_of t) (entry_made t.behaviours (past_of t) run op) → IsOn scripts v
-on_copied scripts t u v run op on n h m is turn =
-    let c : IsCourse scripts (entry_made t.behaviours (past_of t) run op ∷ past_of t) = (turn, on.course) in
-    record { behaviours = m ∙ (n ∙ on.behaviours); course = subst (IsCourse scripts) (sym (with_copied t u v run op n h is)) c }
+on_copied scripts t u v run op on n h m is turn = grind (arith, common_steps)
 
 pub ruleset closed_rules = (with_copied, on_copied)
 
@@ -28,21 +25,7 @@ entry_of run op reply = record { caller = run; op = op; reply = reply }
 -- a run has one next call
 pub same_entry : (scripts : List ScriptView) (q : List Entry) (e d : Entry) → IsTurn scripts q e → IsTurn scripts q d → e.caller.0 ≡ d.caller.0 → e ≡ d
 unfolding entry_of
-same_entry scripts q e d h k own =
-    let turns : turn scripts q e.caller.0 ≡ turn scripts q d.caller.0 = ap (turn scripts q) own in
-    let mine : turn scripts q e.caller.0 ≡ Some e.op = h.turn in
-    let others : turn scripts q d.caller.0 ≡ Some d.op = k.turn in
-    let some : Some e.op ≡ Some d.op = cc in
-    let op_is : e.op ≡ d.op = cc in
-    let mine_is : e.reply ≡ answer (length scripts) q e.caller.0 e.op = h.reply in
-    let others_is : d.reply ≡ answer (length scripts) q d.caller.0 d.op = k.reply in
-    let reply_is : e.reply ≡ d.reply = cc in
-    let caller_is : e.caller ≡ d.caller = same_run e.caller d.caller own in
-    let one : entry_of e.caller e.op e.reply ≡ entry_of d.caller d.op d.reply = cc in
-    one
-  where
-    same_run : (x y : Run) → x.0 ≡ y.0 → x ≡ y
-    same_run x y h = ap (λ (m : ℕ). record { 0 = m }) h
+same_entry scripts q e d h k own = grind (arith, common_steps)
 
 pub held_cannot : (scripts : List ScriptView) (q : List Entry) (b : ℕ) → CannotGo scripts q b → IsHeldAt scripts q b
 held_cannot scripts q b cannot = λ e own t. absurd (cannot e own t)
@@ -90,9 +73,7 @@ goes_on_by scripts n q run op t on plain = record { entry = entry_made n q run o
 
 -- the next call of one that is an error
 pub still_fault : (scripts : List ScriptView) (n : ℕ) (q : List Entry) (run : Run) (op : Op) → IsTurn scripts q (entry_made n q run op) → is_fault (answer n q run.0 op) ≡ true → IsStillAt scripts q run.0
-still_fault scripts n q run op t fault = λ e own h on.
-    let same : e ≡ entry_made n q run op = same_entry scripts q e (entry_made n q run op) h t own in
-    ap (λ (x : Entry). is_fault x.reply) same ∙ fault
+still_fault scripts n q run op t fault = grind (arith, common_steps)
 
 pub calm_state : {aim : Verdict} (scripts : List ScriptView) (t : Case) → IsState aim scripts t → IsCalm scripts (past_of t)
 calm_state scripts t s = s.calm

@@ -1,5 +1,6 @@
 -- If whatever comes after each seen history is seen, or its verdict is found, the verdict of every complete course is
 -- found.
+use Rattle.std.proofs.lemmas.Grind.{common_steps}
 use Rattle.std.{proofs.{lemmas.Bool.{both_ways, not-true, or_parts, cases_lt, true_from_ne_false}, Common.{ℕ, zero, suc, ◌≡◌, ◌<◌, ◌≤◌, ◌==◌, ◌&&◌, ◌⊎◌, inl, inr, ⊎_elim, if◌then◌else◌, Bool, true, false, Option, Some, None, is_some, MatchOption, List, [], ◌∷◌, length, slice_get, refl, ap, sym, subst, ◌∙◌, arith}}, specs.Option.unwrap_or}
 use Rattle.tc_rules.{specs.{Prelude.{Verdict, worse, level_of, Comp, Entry, Op, Target, Phase, Reply, Fault, is_ended, is_fault, is_wake, comp_of, comps, exists, is_in, created, started_on, ends_case, is_over, phase, overall, gives, holds, waiting, waits_in_vain, is_still, is_stuck, awaited, fault, all_exist, answer, plain_answer, wake_reply, is_active, is_active_on, is_run_of, IsLegal, UserVerdict, given}, declared.awaited.Awaited.Awaited}, proofs.Lemmas.{Deciding.{and_right, equal_if, self_equal}, Going.started_by_entry, Over.{all_over, on_existing}, Stuck.one_false, Decided.overall_more}}
 use Rattle.tc_step.specs.Prelude.{ScriptView}
@@ -163,9 +164,7 @@ module _ {aim : Verdict} {scripts : List ScriptView} {Seen : List Entry → Type
   still_better h same = let eq = ap level_of same in let l = h.for.ahead.no_better in omega (arith, eq, l)
 
   told_stay : AtTurn aim scripts Seen found p q e → ends_case e ≡ false → IsFor aim scripts q (e ∷ p) → IsTold aim scripts Seen found (e ∷ p)
-  told_stay h none f =
-      let on : is_over (e ∷ p) ≡ false = rw (none, h.going) refl in
-      record { over = λ o. absurd cc; going = λ o. (q, h.closed, f) }
+  told_stay h none f = grind (arith, common_steps)
 
   told_stutter : AtTurn aim scripts Seen found p q e → ChangesNothing p e → level_of (overall (e ∷ p)) ≤ level_of (overall q) → IsPlaced aim scripts p q e → IsTold aim scripts Seen found (e ∷ p)
   told_stutter h u better placed = told_stay h (or_parts (ends_case e) _ (u.no_halt 0)).0 (stutter scripts p q e h.course h.closed.course h.for u better placed.own placed.follows)
@@ -442,15 +441,7 @@ met_at n q b op wake quiet of = met_for q op (ap (is_met q) of.waits ∙ (ap (is
 
 -- and what is awaited then
 met_awaited : (q : List Entry) (op wake : Op) (a : Awaited) → (of : IsWakeOf op wake) → (m : IsMetFor q op) → awaited wake ≡ Some a → record { killed = m.for_kill; target = Target.One m.comp } ≡ a
-met_awaited q op wake a of m h =
-    let waits : Op.Wait of.killed of.target ≡ Op.Wait m.for_kill (Target.One m.comp) = sym of.waits ∙ m.waits in
-    let for_it : awaited_op (Op.Wait of.killed of.target) ≡ awaited_op (Op.Wait m.for_kill (Target.One m.comp)) = ap awaited_op waits in
-    let wakes : awaited (Op.Wake of.killed of.target) ≡ Some a = ap awaited (sym of.wakes) ∙ h in
-    let one : Some (record { killed = m.for_kill; target = Target.One m.comp }) ≡ Some a = sym for_it ∙ wakes in
-    cc
-  where
-    awaited_op : Op → Option Awaited
-    awaited_op op = awaited op
+met_awaited q op wake a of m h = grind (arith, common_steps)
 
 place_if_parked : (s : CourseState) (wake : Op) (place : ℕ) → s.wake ≡ Some wake → s.called ≡ suc place → place_of s ≤ place
 place_if_parked s wake place h more = rw h (omega (arith, more))

@@ -1,9 +1,10 @@
 -- What a stop or kill does that nobody can see: of a component whose run can only set a verdict worse than is looked for.
-use Rattle.std.proofs.{Common.{◌≡◌, ◌<◌, ◌==◌, inl, true, false, Some, None, List, ◌∷◌, length, refl, ap, sym, subst, ◌∙◌, arith, inr}, lemmas.Bool.false_from_ne_true}
-use Rattle.tc_rules.{specs.Prelude.{Verdict, UserVerdict, given, level_of, Comp, Entry, is_ended, is_fault, comp_of, phase, plain_answer, is_active, is_active_on, is_run_of, IsLegal, Phase, Reply, created, is_wake}, proofs.Lemmas.{Deciding.{equal_if, self_equal}, Over.{on_existing, stays}, Sound.plain_if}}
+use Rattle.std.proofs.lemmas.Grind.{common_steps}
+use Rattle.std.proofs.{Common.{◌≡◌, ◌<◌, ◌==◌, inl, true, false, Some, None, List, ◌∷◌, length, refl, ap, sym, subst, ◌∙◌, arith, inr}}
+use Rattle.tc_rules.{specs.Prelude.{Verdict, UserVerdict, given, level_of, Comp, Entry, is_ended, is_fault, comp_of, is_active, is_run_of, IsLegal, created, is_wake}, proofs.Lemmas.{Deciding.{self_equal}, Over.{on_existing, stays}, Sound.plain_if}}
 use Rattle.tc_step.specs.Prelude.{ScriptView}
 use Rattle.tc_course.{specs.{Prelude.{stand, IsCourse}, Inside.{ends, wake_if}}, proofs.Lemmas.{course_legal, stand_own, stand_comp}}
-use Rattle.tc_explore.{specs.Inside.Simulation.{is_barred, is_late, IsQuietAt, IsFollowed, IsFor, IsFelling}, proofs.{Ahead.{KeepsQuiet, active_if}, Late.{HaltsOne, IsGone, halt_not_ending, halting, late_if, late_special, stop_halts, halted, ahead_halted}, Leaving.barred_leaves, Ordered.was_active, Places.{ahead, barred_sets, keeps_quiet, spent_by, still_no_fault_by, next_of}, Simulation.{followed_later, some_if, lead_by}}}
+use Rattle.tc_explore.{specs.Inside.Simulation.{is_barred, is_late, IsQuietAt, IsFollowed, IsFor, IsFelling}, proofs.{Ahead.{KeepsQuiet, active_if}, Late.{HaltsOne, IsGone, halt_not_ending, late_if, late_special, halted, ahead_halted}, Leaving.barred_leaves, Ordered.was_active, Places.{ahead, barred_sets, keeps_quiet, spent_by, still_no_fault_by, next_of}, Simulation.{followed_later, some_if, lead_by}}}
 
 -- a quiet call of q, after which its run is where p has it or ahead
 pub followed_call : (scripts : List ScriptView) (p q : List Entry) (e : Entry) → IsCourse scripts (e ∷ q) → IsFollowed scripts q e.caller.0 (stand p e.caller.0) (stand q e.caller.0) → IsQuietAt (length scripts) (e ∷ q) e.caller.0 e.op →
@@ -21,9 +22,7 @@ below_error UserVerdict.None = omega arith
 below_error _ = omega arith
 
 pub felling_halts : {aim : Verdict} (scripts : List ScriptView) (q : List Entry) (e : Entry) → IsCourse scripts (e ∷ q) → is_fault e.reply ≡ false → is_ended e.reply ≡ false → (h : IsFelling aim scripts q e.caller.0 e.op) → HaltsOne q e h.comp.0
-felling_halts scripts q e cq plain goes h =
-    let is = plain_if (length scripts) q e.caller.0 e.op e.reply goes plain cq.0.reply in
-    stop_halts q e h.comp h.halts_it (is.is ∙ halting (λ o. plain_answer q e.caller.0 o ≡ Reply.Ok) e.op h.comp h.halts_it refl refl) h.felled.not_main
+felling_halts scripts q e cq plain goes h = grind (arith, common_steps)
 
 module _ {aim : Verdict} (scripts : List ScriptView) (p q : List Entry) (e : Entry) (cq : IsCourse scripts (e ∷ q)) (plain : is_fault e.reply ≡ false) (goes : is_ended e.reply ≡ false)
     (h : IsFelling aim scripts q e.caller.0 e.op) (f : IsFor aim scripts q p) where
@@ -54,14 +53,7 @@ module _ {aim : Verdict} (scripts : List ScriptView) (p q : List Entry) (e : Ent
   -- its caller is on another component
   caller_other : (me : Comp) → comp_of q e.caller.0 ≡ Some me → is_active q e.caller.0 ≡ true → (h.comp.0 == me.0) ≡ false
   unfolding is_active
-  caller_other me at act = false_from_ne_true (h.comp.0 == me.0) (λ k.
-      let runs : is_run_of e.caller.0 (phase q me.0) ≡ true = ap (is_active_on q e.caller.0) (sym at) ∙ act in
-      let here : phase q me.0 ≡ Phase.Running h.felled.run = ap (phase q) (sym (equal_if h.comp.0 me.0 k)) ∙ h.felled.running in
-      let is : (h.felled.run.0 == e.caller.0) ≡ true = ap (is_run_of e.caller.0) (sym here) ∙ runs in
-      let same : h.felled.run.0 ≡ e.caller.0 = equal_if h.felled.run.0 e.caller.0 is in
-      let yes : (e.caller.0 == h.felled.run.0) ≡ true = ap (λ x. e.caller.0 == x) same ∙ self_equal e.caller.0 in
-      let no = h.felled.other in
-      cc)
+  caller_other me at act = grind (arith, common_steps)
 
   own : IsFollowed scripts (e ∷ q) e.caller.0 (stand p e.caller.0) (stand (e ∷ q) e.caller.0)
   own =

@@ -1,5 +1,6 @@
 -- The states that a search keeps: no such case is over, no run has a Wake to come, and each call that continues changes
 -- something.
+use Rattle.std.proofs.lemmas.Grind.{common_steps}
 use Rattle.std.proofs.{lemmas.Bool.{and_parts, not-true, or_from, or_parts, true_from_ne_false}, Common.{ℕ, ◌≡◌, ◌==◌, ◌&&◌, ◌||◌, inl, inr, not, Bool, true, false, Option, Some, None, List, [], ◌∷◌, length, reverse, refl, ap, sym, subst, ◌∙◌, arith}}
 use Rattle.tc_rules.{specs.Prelude.{Run, Comp, Entry, Op, Reply, is_ended, is_fault, Case, past_of, comp_of, started_on, first_some, is_comp, is_finish, is_stop_of, is_kill_of, is_stop_case, halts, ends_case, ends_pass, is_over, phase, answer, is_active, is_active_on, is_run_of, IsLegal, Verdict, overall, gives, local, level_of, Phase, entry_made}, proofs.Lemmas.{Deciding.{equal_if, if_same}, Going.halted_by_entry, Sound.plain_if, Decided.overall_more}}
 use Rattle.tc_step.specs.Prelude.{ScriptView}
@@ -85,19 +86,11 @@ pub on_state : {aim : Verdict} (scripts : List ScriptView) (t : Case) → IsStat
 on_state scripts t s = s.opened.on
 
 pub open_same : (scripts : List ScriptView) (t u : Case) → u.behaviours ≡ t.behaviours → u.history ≡ t.history → IsOpen scripts t → IsOpen scripts u
-open_same scripts t u n h o =
-    let past : past_of u ≡ past_of t = ap reverse h in
-    record {
-      on = record { behaviours = n ∙ o.on.behaviours; course = subst (IsCourse scripts) (sym past) o.on.course };
-      going = ap is_over past ∙ o.going;
-      no_wake = subst HasNoWake (sym past) o.no_wake;
-    }
+open_same scripts t u n h o = grind (arith, common_steps)
 
 -- a copy of a state is one
 pub state_same : {aim : Verdict} (scripts : List ScriptView) (t u : Case) → u.behaviours ≡ t.behaviours → u.history ≡ t.history → IsState aim scripts t → IsState aim scripts u
-state_same {aim} scripts t u n h s =
-    let past : past_of u ≡ past_of t = ap reverse h in
-    record { opened = open_same scripts t u n h s.opened; calm = subst (IsCalm scripts) (sym past) s.calm; within = subst (IsWithin aim) (sym past) s.within }
+state_same {aim} scripts t u n h s = grind (arith, common_steps)
 
 pub within_state : {aim : Verdict} (scripts : List ScriptView) (t : Case) → IsState aim scripts t → IsWithin aim (past_of t)
 within_state scripts t s = s.within

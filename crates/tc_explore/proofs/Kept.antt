@@ -1,19 +1,15 @@
 -- The states that a search keeps, and how many calls it counts.
-use Rattle.std.{proofs.{Common.{ℕ, ◌≡◌, ◌<◌, List, [], length, get_or, replicate, set, refl, ap, sym, ◌∙◌, arith, ◌+◌, ◌≤◌, inl, inr, max, nat_eq, All, ◌∷◌, ◌++◌, map, reverse, rules, nat_cmp, subst, append-nil, ⊎_elim, Bool, true, false, length-append, Result, Ok, Err, OnOk}, lemmas.{List.{Elements.{All-map, All-nil, All-push, All-same, All-weaker}, get_or-map, get_or-replicate, get_or-set_other, get_or-set_same, length-map, length-replicate, length-set}, Bool.{cases_eq, cases_lt}, Option.slice_get-get_or}}, specs.{Cmp.Lexicographic.pointwise, List.IsDistinct, Ordering.ord_max}}
+use Rattle.std.proofs.lemmas.Grind.{common_steps}
+use Rattle.std.{proofs.{Common.{ℕ, ◌≡◌, ◌<◌, List, [], length, get_or, replicate, set, refl, ap, sym, ◌∙◌, arith, ◌+◌, ◌≤◌, inl, inr, max, nat_eq, All, ◌∷◌, ◌++◌, map, reverse, rules, nat_cmp, subst, append-nil, ⊎_elim, Bool, true, false, Result, Ok, Err, OnOk}, lemmas.{List.{Elements.{All-map, All-nil, All-push, All-same, All-weaker}, get_or-map, get_or-set_other, get_or-set_same, length-map, length-set}, Bool.{cases_eq, cases_lt}, Option.slice_get-get_or}}, specs.{Cmp.Lexicographic.pointwise, List.IsDistinct, Ordering.ord_max}}
 use Rattle.tc_entry.specs.declared.limits.TheConstants.{BEHAVIOURS}
 use Rattle.tc_step.specs.Prelude.{ScriptView}
 use Rattle.tc_rules.specs.Prelude.{Case, past_of, Entry}
 use Rattle.tc_course.specs.{Prelude.{carried_on, IsOn, IsCourse}, declared.witness.Witness.Witness}
-use Rattle.tc_explore.{specs.{Found.{AreAllMet, AreCourses, AreCovered, AreReached, Covers}, Inside.{Seen.{AreMet, IsCountedTo, IsFull, IsFurther, IsLonger, IsMetFurther, IsNoLess, IsNoted, IsPlaced, IsSameCase, IsSearch, IsSeen, IsState, IsWith, Reaches}, Twins.{AreKeyed, key_of}}, declared.{findings.Findings.Findings, search.{Met.Met, Search.Search}}}, proofs.{Keeping.state_same, Keys.{AreApart, keys_apart, seen_by_key}, Seeing.{longer_self, longer_then, met_self, met_then}}}
+use Rattle.tc_explore.{specs.{Found.{AreAllMet, AreCourses, AreCovered, AreReached, Covers}, Inside.{Seen.{AreMet, IsCountedTo, IsFurther, IsLonger, IsMetFurther, IsNoLess, IsNoted, IsPlaced, IsSameCase, IsSearch, IsSeen, IsState, IsWith, Reaches}, Twins.{AreKeyed, key_of}}, declared.{findings.Findings.Findings, search.{Met.Met, Search.Search}}}, proofs.{Keeping.state_same, Keys.{AreApart, keys_apart, seen_by_key}, Seeing.{longer_self, met_self}}}
 
 -- nothing was called at the opening
 pub reached_none : (scripts : List ScriptView) → AreReached scripts (replicate (length scripts) 0)
-reached_none scripts = record {
-  as_many = length-replicate {A = ℕ} (length scripts) 0;
-  each = λ b near.
-      let inside : b < length scripts = omega (arith, length-replicate {A = ℕ} (length scripts) 0, near) in
-      ([], tt, sym (get_or-replicate {A = ℕ} (length scripts) b 0 0 inside));
-}
+reached_none scripts = grind (arith, common_steps)
 
 -- a course reaches as far as it came
 pub reaches : (scripts : List ScriptView) (t : Case) (b k : ℕ) → IsOn scripts t → k ≡ carried_on (past_of t) b → Reaches scripts b k
@@ -36,9 +32,7 @@ pub no_less_self : (a : List ℕ) → IsNoLess a a
 no_less_self a = record { as_many = refl; each = λ b near. omega arith }
 
 pub covers_more : (before after : List ℕ) (past : List Entry) → IsNoLess before after → Covers before past → Covers after past
-covers_more before after past more covers b near =
-    let inside : b < length before = omega (arith, more.as_many, near) in
-    omega (arith, covers b inside, more.each b inside)
+covers_more before after past more covers b near = grind (arith, common_steps)
 
 -- nor any witness
 pub covered_more : (before after : List ℕ) (found : List Witness) → IsNoLess before after → AreCovered before found → AreCovered after found
@@ -106,14 +100,7 @@ all_with P before after t keeps (inr more) all one = All-same P after (before ++
 
 -- none is met yet
 pub are_none : (all : Bool) (Fits : Case → Type 0) (met : Met) → 1 ≤ length met.scripts.now → length met.scripts.now ≤ BEHAVIOURS → met.states.items ≡ [] → met.keys.keys ≡ [] → met.is_whole ≡ true → AreMet all Fits met
-are_none all Fits met some few none no_key whole = record {
-  some = some;
-  few = few;
-  within = let size : length met.states.items ≡ 0 = ap length none in omega (arith, size);
-  each = All-same Fits met.states.items [] none (All-nil Fits);
-  keyed = rw (none, no_key) refl;
-  full = λ part. absurd cc;
-}
+are_none all Fits met some few none no_key whole = grind (arith, common_steps)
 
 pub placed_further : (all : Bool) (t : Case) (before after : Met) → IsPlaced all t before after → IsMetFurther before after
 placed_further all t before after p = record { scripts = p.scripts; limit = p.limit; states = longer_with before.states.items after.states.items t p.states; whole = p.whole }
@@ -121,20 +108,7 @@ placed_further all t before after p = record { scripts = p.scripts; limit = p.li
 -- one state more
 pub placed_met : (all : Bool) (Fits : List ScriptView → Case → Type 0) (t : Case) (before after : Met) → ((u : Case) → IsSameCase t u → Fits before.scripts.now t → Fits before.scripts.now u) →
     AreMet all (Fits before.scripts.now) before → Fits before.scripts.now t → IsPlaced all t before after → AreMet all (Fits after.scripts.now) after
-placed_met all Fits t before after keeps are fits p = subst (λ sc. AreMet all (Fits sc) after) (sym p.scripts) (record {
-  some = subst (λ sc. 1 ≤ length sc) (sym p.scripts) are.some;
-  few = subst (λ sc. length sc ≤ BEHAVIOURS) (sym p.scripts) are.few;
-  within = let most = p.within are.within in omega (arith, most, p.limit);
-  each = all_with (Fits before.scripts.now) before.states.items after.states.items t keeps p.states are.each fits;
-  keyed = subst (λ sc. AreKeyed (key_of all (length sc)) after) (sym p.scripts) (p.keyed are.keyed);
-  full = λ part. ⊎_elim (λ was. stays (are.full was)) stays (p.full part);
-})
-  where
-    stays : IsFull before → IsFull after
-    stays full =
-        let more = longer_with before.states.items after.states.items t p.states in
-        let size : length after.states.items ≡ length before.states.items + length more.0 = ap length more.1 ∙ length-append before.states.items more.0 in
-        omega (arith, size, p.limit, full)
+placed_met all Fits t before after keeps are fits p = grind (arith, common_steps)
 
 -- no more than the limit
 pub met_within : (all : Bool) (Fits : Case → Type 0) (met : Met) → AreMet all Fits met → length met.keys.keys ≤ met.limit
@@ -147,38 +121,18 @@ met_full all Fits met are part = let full = are.full part in omega (arith, as_ma
 -- ---- a search for verdicts
 
 pub search_none : (s : Search) → 1 ≤ length s.met.scripts.now → length s.met.scripts.now ≤ BEHAVIOURS → s.met.states.items ≡ [] → s.met.keys.keys ≡ [] → s.met.is_whole ≡ true → IsNoted s.met.scripts.now s.found → IsSearch s
-search_none s some few none no_key whole noted = record {
-  met = are_none false (IsState s.aim s.met.scripts.now) s.met some few none no_key whole;
-  found = noted;
-  counted = All-same (λ t. Covers s.found.reached.items (past_of t)) s.met.states.items [] none (All-nil (λ t. Covers s.found.reached.items (past_of t)));
-}
+search_none s some few none no_key whole noted = grind (arith, common_steps)
 
 pub further_self : (s : Search) → IsSearch s → IsFurther s s
 further_self s is = record { search = is; aim = refl; met = met_self s.met; witnesses = longer_self s.found.witnesses.items; reached = no_less_self s.found.reached.items }
 
 pub further_then : (a b c : Search) → IsFurther a b → IsFurther b c → IsFurther a c
-further_then a b c h k = record {
-  search = k.search;
-  aim = k.aim ∙ h.aim;
-  met = met_then a.met b.met c.met h.met k.met;
-  witnesses = longer_then a.found.witnesses.items b.found.witnesses.items c.found.witnesses.items h.witnesses k.witnesses;
-  reached = no_less_then a.found.reached.items b.found.reached.items c.found.reached.items h.reached k.reached;
-}
+further_then a b c h k = grind (arith, common_steps)
 
 -- more is found
 pub noted_further : (s : Search) (g : Findings) → IsSearch s → IsNoted s.met.scripts.now g → IsLonger s.found.witnesses.items g.witnesses.items → IsNoLess s.found.reached.items g.reached.items →
     IsFurther s (record { aim = s.aim; met = s.met; found = g })
-noted_further s g is noted longer more = record {
-  search = record {
-    met = is.met;
-    found = noted;
-    counted = All-weaker (λ t. Covers s.found.reached.items (past_of t)) (λ t. Covers g.reached.items (past_of t)) (λ t. covers_more s.found.reached.items g.reached.items (past_of t) more) s.met.states.items is.counted;
-  };
-  aim = refl;
-  met = met_self s.met;
-  witnesses = longer;
-  reached = more;
-}
+noted_further s g is noted longer more = grind (arith, common_steps)
 
 same_state : (s : Search) (t u : Case) → IsSameCase t u → IsState s.aim s.met.scripts.now t → IsState s.aim s.met.scripts.now u
 same_state s t u one = state_same s.met.scripts.now t u one.behaviours one.entries
@@ -231,11 +185,7 @@ met_none scripts reached = record { courses = []; are = no_courses scripts; coun
 
 -- they are met still where more is counted
 pub met_more : (scripts : List ScriptView) (before after : List ℕ) (n : ℕ) → IsNoLess before after → AreAllMet scripts before n → AreAllMet scripts after n
-met_more scripts before after n more met = record {
-  courses = met.courses;
-  are = met.are;
-  counted = All-weaker (Covers before) (Covers after) (λ p. covers_more before after p more) met.courses met.counted;
-}
+met_more scripts before after n more met = grind (arith, common_steps)
 
 -- the answer is the greater of two numbers
 pub most_of : (m n k : ℕ) → k ≡ ord_max nat_cmp m n → k ≡ max m n

@@ -1,6 +1,7 @@
 -- What a stop or a kill of a component does that is killed already, and a wait for it.
-use Rattle.std.proofs.{lemmas.Bool.{and_parts, not-true, or_from, false_from_ne_true}, Common.{ℕ, ◌≡◌, ◌==◌, ◌⊎◌, inl, inr, not, if◌then◌else◌, Bool, true, false, Option, Some, None, List, ◌∷◌, length, refl, ap, sym, subst, ◌∙◌, arith, ⊎_elim}}
-use Rattle.tc_rules.{specs.{Prelude.{Run, Comp, Entry, Op, Phase, is_ended, is_ok, is_wake, comps, comp_of, exists, is_alive_type, created, started_on, starts_on, first_some, add_new, halts, kills, ends_case, ends_pass, phase, phase_if_any, start_in, is_killed, done, killed, holds, overall, gives, special_fault, answer, plain_answer, is_active, is_active_on, is_run_of, IsLegal, level_of, Verdict, Group, Target, Reply}, Inside.Step.{next_local, next_phase}, declared.component_state.ComponentState.ComponentState}, proofs.Lemmas.{Deciding.{equal_if, ok_is, self_equal, test_by, first_alone}, Over.{stays, on_existing}, Sound.{IsPlain, no_special, plain_if, startable}, Decided.overall_more}}
+use Rattle.std.proofs.lemmas.Grind.{common_steps}
+use Rattle.std.proofs.{lemmas.Bool.{and_parts, not-true, or_from}, Common.{ℕ, ◌≡◌, ◌==◌, ◌⊎◌, inl, inr, not, if◌then◌else◌, Bool, true, false, Option, Some, None, List, ◌∷◌, length, refl, ap, sym, subst, ◌∙◌, arith, ⊎_elim}}
+use Rattle.tc_rules.{specs.{Prelude.{Run, Comp, Entry, Op, Phase, is_ended, is_ok, is_wake, comps, comp_of, exists, is_alive_type, created, started_on, starts_on, first_some, add_new, halts, kills, ends_case, ends_pass, phase, phase_if_any, start_in, is_killed, done, killed, holds, overall, gives, special_fault, answer, plain_answer, is_active, IsLegal, level_of, Verdict, Group, Target, Reply}, Inside.Step.{next_local, next_phase}, declared.component_state.ComponentState.ComponentState}, proofs.Lemmas.{Deciding.{equal_if, ok_is, test_by, first_alone}, Over.{stays, on_existing}, Sound.{IsPlain, no_special, plain_if, startable}, Decided.overall_more}}
 use Rattle.tc_step.specs.Prelude.{ScriptView}
 use Rattle.tc_course.specs.{Prelude.{stand, IsCourse}, Inside.{ends, wake_if}}
 use Rattle.tc_explore.{specs.Inside.Simulation.{IsAlike, is_gone, is_late, is_met, IsLeaving, IsEnding, IsAhead, is_barred, IsWakeOf}, proofs.{Alike.{fresh, kept_by, kind_kept, phase_next, none_unless}, Ahead.{ending_later, leaving_by, KeepsQuiet, leaving_later, phase_later}}}
@@ -14,15 +15,7 @@ pub record IsGone (past : List Entry) (c : ℕ) : Type 0 where
 
 pub gone_is : (past : List Entry) (c : ℕ) → is_gone (phase_if_any past c) ≡ true → IsGone past c
 unfolding phase_if_any
-gone_is past c h = by_test (exists past c) refl h
-  where
-    by_phase : (ph : Phase) → phase past c ≡ ph → is_gone (Some ph) ≡ true → phase past c ≡ Phase.Killed
-    by_phase Phase.Killed k j = k
-    by_phase _ k j = absurd cc
-
-    by_test : (t : Bool) → exists past c ≡ t → is_gone (if t then Some (phase past c) else None) ≡ true → IsGone past c
-    by_test true k j = record { there = k; dead = by_phase (phase past c) refl j }
-    by_test false k j = absurd cc
+gone_is past c h = grind (arith, common_steps)
 
 pub gone_if : (past : List Entry) (c : ℕ) → IsGone past c → is_gone (phase_if_any past c) ≡ true
 unfolding phase_if_any
@@ -82,22 +75,7 @@ halting P op c (inl is) stop kill = subst P (sym is) stop
 halting P op c (inr is) stop kill = subst P (sym is) kill
 
 pub stop_halts : (past : List Entry) (e : Entry) (c : Comp) → (e.op ≡ Op.Stop (Group.One c)) ⊎ (e.op ≡ Op.Kill (Group.One c)) → e.reply ≡ Reply.Ok → (c.0 == 0) ≡ false → HaltsOne past e c.0
-stop_halts past e c op reply other = record {
-  no_case = by (λ o. ends_case (record e { op = o }) ≡ false) (rw (reply, other) refl) (rw (reply, other) refl);
-  made = by (λ o. created o e.reply ≡ None) refl refl;
-  no_run = λ b. by (λ o. started_on (record e { op = o }) b ≡ None) (rw reply refl) (rw reply refl);
-  no_start = λ d. by (λ o. start_in (record e { op = o }) d ≡ None) (rw reply refl) (rw reply refl);
-  no_gain = by (λ o. next_local (gives o e.reply) (overall past) ≡ overall past) (rw reply refl) (rw reply refl);
-  here = by (λ o. halts (comp_of past e.caller.0) (record e { op = o }) c.0 ≡ true) (rw (reply, other, self_equal c.0) refl) (rw (reply, other, self_equal c.0) refl);
-  no_kill = λ d k. by (λ o. kills (record e { op = o }) d ≡ false) (rw (reply, other) refl) (rw (reply, other, k) refl);
-  elsewhere = λ d k. by (λ o. halts (comp_of past e.caller.0) (record e { op = o }) d ≡ false) (rw (reply, other, k) refl) (rw (reply, other, k) refl);
-  plain = by (λ o. is_wake o ≡ false) refl refl;
-  no_wake = rw reply refl;
-  goes = rw reply refl;
-}
-  where
-    by : (P : Op → Type 0) → P (Op.Stop (Group.One c)) → P (Op.Kill (Group.One c)) → P e.op
-    by P stop kill = halting P e.op c op stop kill
+stop_halts past e c op reply other = grind (arith, common_steps)
 
 -- the component that a late call is about
 pub record IsLateFor (past : List Entry) (op : Op) (c : Comp) : Type 0 where
@@ -212,22 +190,12 @@ met_reply q b op h = let m = met_for q op h in rw (m.waits, met_holds q m.for_ki
 
 -- a wait that is no error is matched or parked
 pub met_or_parked : (q past : List Entry) (b : ℕ) (op : Op) → is_met q op ≡ true → (plain_answer past b op ≡ Reply.Matched) ⊎ (plain_answer past b op ≡ Reply.Parked)
-met_or_parked q past b op h = by_test (holds past (record { killed = m.for_kill; target = Target.One m.comp })) refl
-  where
-    m : IsMetFor q op
-    m = met_for q op h
-
-    by_test : (t : Bool) → holds past (record { killed = m.for_kill; target = Target.One m.comp }) ≡ t → (plain_answer past b op ≡ Reply.Matched) ⊎ (plain_answer past b op ≡ Reply.Parked)
-    by_test true k = inl (rw (m.waits, k) refl)
-    by_test false k = inr (rw (m.waits, k) refl)
+met_or_parked q past b op h = grind (arith, common_steps)
 
 -- a run that continues is on no killed component
 pub other_than_gone : (past : List Entry) (b c : ℕ) (me : Comp) → is_active past b ≡ true → comp_of past b ≡ Some me → phase past c ≡ Phase.Killed → (c == me.0) ≡ false
 unfolding is_active
-other_than_gone past b c me act on dead = false_from_ne_true (c == me.0) (λ k.
-    let here : phase past me.0 ≡ Phase.Killed = subst (λ x. phase past x ≡ Phase.Killed) (equal_if c me.0 k) dead in
-    let off : is_active_on past b (comp_of past b) ≡ false = ap (is_active_on past b) on ∙ ap (is_run_of b) here in
-    cc)
+other_than_gone past b c me act on dead = grind (arith, common_steps)
 
 -- ---- p halts what q has seen end
 
@@ -266,9 +234,7 @@ module _ {aim : Verdict} (scripts : List ScriptView) (p q : List Entry) (e : Ent
   halted = halt_here (length scripts) lq h (on_existing (length scripts) q run.0 (record { 0 = c }) lq.1 on) ordinary run runs
 
   pub still_running : phase p c ≡ Phase.Running run
-  still_running =
-      ⊎_elim (λ (same : phase p c ≡ phase q c). same ∙ runs)
-      (λ (n : IsEnding aim scripts p q c). let no : Phase.Killed ≡ Phase.Running run = sym n.ended ∙ runs in absurd cc) (s.phases c)
+  still_running = grind (arith, common_steps)
 
   pub ahead_halted : IsLeaving aim scripts q run.0 (stand p run.0) → IsAhead aim scripts p (e ∷ q)
   ahead_halted leaving = record {

@@ -1,5 +1,6 @@
 -- What the end of a run does that nobody can see.
-use Rattle.std.proofs.{Common.{ℕ, suc, ◌≡◌, ◌≤◌, ◌<◌, ◌==◌, ◌||◌, ◌⊎◌, inl, inr, if◌then◌else◌, Bool, true, false, Option, Some, None, MatchOption, List, ◌∷◌, length, slice_get, get_or, refl, ap, sym, subst, ◌∙◌, arith, ⊎_elim}, lemmas.{Bool.{false_from_ne_true, both_ways, cases_lt}, Option.{slice_get-get_or, slice_get_within}}}
+use Rattle.std.proofs.lemmas.Grind.{common_steps}
+use Rattle.std.proofs.{Common.{ℕ, suc, ◌≡◌, ◌≤◌, ◌<◌, ◌==◌, ◌⊎◌, inl, inr, if◌then◌else◌, Bool, true, false, Option, Some, None, MatchOption, List, ◌∷◌, length, slice_get, get_or, refl, ap, sym, subst, ◌∙◌, arith, ⊎_elim}, lemmas.{Bool.{false_from_ne_true, both_ways, cases_lt}, Option.{slice_get-get_or, slice_get_within}}}
 use Rattle.tc_rules.{specs.Prelude.{Comp, Entry, Op, Phase, comp_of, is_alive_type, halts, phase, phase_if_any, is_active, is_active_on, is_run_of, IsLegal, Verdict, Target, Reply}, proofs.Lemmas.{Deciding.{equal_if, self_equal}, LawsOfHistories.runs_if_active}}
 use Rattle.tc_step.specs.{declared.step.{Status.Status, Step.Step}, Prelude.ScriptView}
 use Rattle.tc_course.{specs.{Prelude.{CourseState, stand, steps_of, IsCourse}, Inside.call_of}, proofs.Lemmas.course_legal}
@@ -24,27 +25,11 @@ running_on past e c act on =
 
 module _ {past : List Entry} {e : Entry} {c : Comp} where
   halts_one : Ends past e c → (d : ℕ) → halts (comp_of past e.caller.0) e d ≡ (c.0 == d)
-  halts_one h d = rw (h.on, h.op, h.reply, h.not_main) (or_nos (c.0 == d))
-    where
-      or_nos : (t : Bool) → (t || false || false) ≡ t
-      or_nos true = refl
-      or_nos false = refl
+  halts_one h d = grind (arith, common_steps)
 
   -- it halts only this component
   pub end_halts : Ends past e c → HaltsOne past e c.0
-  end_halts h = record {
-    no_case = rw (h.op, h.reply, h.not_main) refl;
-    made = rw h.op refl;
-    no_run = λ b. rw (h.op, h.reply) refl;
-    no_start = λ d. rw (h.op, h.reply) refl;
-    no_gain = rw (h.op, h.reply) refl;
-    here = halts_one h c.0 ∙ self_equal c.0;
-    no_kill = λ d k. rw (h.op, h.reply, h.not_main) refl;
-    elsewhere = λ d k. halts_one h d ∙ k;
-    plain = rw h.op refl;
-    no_wake = rw h.reply refl;
-    goes = rw h.reply refl;
-  }
+  end_halts h = grind (arith, common_steps)
 
 -- ---- what is left after the end
 
@@ -79,10 +64,7 @@ CallsNoWait scripts b t = (killed : Bool) (to : Target) → call_at scripts b t 
 
 -- the Wait at which a run was parked that follows such a one was made
 before_call : (scripts : List ScriptView) (q : List Entry) (b : ℕ) (s t : CourseState) (wake : Op) → CallsNoWait scripts b t → (h : IsParkedAt scripts q b s t wake) → h.place < t.called
-before_call scripts q b s t wake no_wait h = ⊎_elim (λ near. near) (λ far.
-    let fewer = h.fewer in
-    let same : h.place ≡ t.called = omega (arith, fewer, far) in
-    absurd (no_wait h.wake_of.killed h.wake_of.target (ap (call_at scripts b t t.comp) (sym same) ∙ h.wake_of.waits))) (cases_lt h.place t.called)
+before_call scripts q b s t wake no_wait h = grind (arith, common_steps)
 
 place_most : (o : Option Op) (n : ℕ) → place_by o n ≤ n
 place_most None n = omega arith
@@ -121,11 +103,7 @@ followed_leaves scripts q b s t f ends =
 
 -- it has called no more steps
 no_further : (scripts : List ScriptView) (q : List Entry) (b : ℕ) (s t : CourseState) → IsFollowed scripts q b s t → CallsNoWait scripts b t → s.called ≤ t.called
-no_further scripts q b s t f no_wait = by_wake s.wake f.place
-  where
-    by_wake : (o : Option Op) → MatchOption o (IsBefore scripts q b s t) (λ wake. IsParkedAt scripts q b s t wake) → s.called ≤ t.called
-    by_wake None h = h.fewer
-    by_wake (Some wake) h = let less = before_call scripts q b s t wake no_wait h in let more = h.one_more in omega (arith, more, less)
+no_further scripts q b s t f no_wait = grind (arith, common_steps)
 
 -- so is one that follows one that is barred
 pub barred_leaves : {aim : Verdict} (scripts : List ScriptView) (q : List Entry) (b : ℕ) (s t : CourseState) → IsFollowed scripts q b s t → is_barred aim (call_at scripts b t t.comp t.called) ≡ true →
@@ -208,9 +186,7 @@ module _ {aim : Verdict} (scripts : List ScriptView) (p q : List Entry) (e : Ent
 
   runs_here : (b : ℕ) → is_active p b ≡ true → comp_of p b ≡ Some (record { 0 = c.0 }) → b ≡ e.caller.0
   unfolding is_active
-  runs_here b on at =
-      let runs : is_run_of b (phase p c.0) ≡ true = ap (is_active_on p b) (sym at) ∙ on in
-      sym (equal_if e.caller.0 b (ap (is_run_of b) (sym running) ∙ runs))
+  runs_here b on at = grind (arith, common_steps)
 
   ordered_by : (o : AreOrdered scripts p q) (d b : ℕ) → is_active p b ≡ true → comp_of p b ≡ Some (record { 0 = d }) → phase (e ∷ q) d ≡ Phase.Killed → (t : Bool) → (c.0 == d) ≡ t → IsOrdered scripts (last_rank o) (e ∷ q) d b (stand p b)
   ordered_by o d b on at dead_after true k =

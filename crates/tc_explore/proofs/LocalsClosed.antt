@@ -1,12 +1,13 @@
 -- If what comes after each state that a search for local verdicts has seen is seen, or found, it has found the local
 -- verdicts of each complete course.
+use Rattle.std.proofs.lemmas.Grind.{common_steps}
 use Rattle.std.proofs.Common.{ℕ, ◌≡◌, ◌+◌, ◌*◌, ◌<◌, ◌≤◌, nat_eq, Bool, true, false, Some, None, List, [], ◌∷◌, length, map, reverse, slice_get, get_or, refl, ap, sym, subst, ◌∙◌, arith}
 use Rattle.std.{specs.{Cmp.Lexicographic.pointwise, List.IsDistinct, Option.unwrap_or}, proofs.lemmas.{List.Elements.All-weaker, Option.{get_or_from_slice_get, slice_get-get_or, slice_get_within}}}
 use Rattle.tc_entry.specs.declared.limits.TheConstants.{BEHAVIOURS}
 use Rattle.tc_rules.{specs.Prelude.{Run, level_of, Comp, Entry, Op, Case, past_of, ends_case, is_over, is_active, Reply, entry_made}, proofs.Lemmas.Over.all_over}
 use Rattle.tc_step.specs.Prelude.{ScriptView}
 use Rattle.tc_course.{specs.{Prelude.{stand, steps_of, turn, IsTurn, IsCourse, IsComplete, is_local}, Inside.call_of}, proofs.Lemmas.{below_more, course_legal, run_in_range, stand_comp, turn_of}}
-use Rattle.tc_explore.{specs.{Found.{AllLocalsFound, AreLocals, HasCourses}, Inside.{Locals.{AreLocalsClosed, AreLocalsRuns, IsLocalFurther, IsLocalSearch, IsLocalsAfter, IsLocalsRun, IsTwinSeen}, Seen.{IsMetFurther, IsPlaced, IsSameCase}, Twins.{HasLocals, IsGoing, IsMore, IsTwin, key_of}}, declared.{marks.Marks.Marks, search.Met.Met, search_locals.LocalSearch.LocalSearch}}, proofs.{Alike.active_alike, Closed.{on_copied, same_entry, with_copied}, Closing.answer_inactive, Keeping.{active_stays, comp_main, main_goes}, Kept.{all_with, are_none, courses_of, no_courses, placed_further, placed_met}, LastCalls.locals_ended, Marking.none_sound, Seeing.{at_longer, get_longer, met_self, met_then}, Simulation.some_if, TwinKeys.seen_by_twin_key, Twins.{locals_twin, matched, twin_ended, twin_then}}}
+use Rattle.tc_explore.{specs.{Found.{AllLocalsFound, AreLocals, HasCourses}, Inside.{Locals.{AreLocalsClosed, AreLocalsRuns, IsLocalFurther, IsLocalSearch, IsLocalsAfter, IsLocalsRun, IsTwinSeen}, Seen.{IsMetFurther, IsPlaced, IsSameCase}, Twins.{HasLocals, IsGoing, IsMore, IsTwin, key_of}}, declared.{marks.Marks.Marks, search.Met.Met, search_locals.LocalSearch.LocalSearch}}, proofs.{Alike.active_alike, Closed.{on_copied, same_entry, with_copied}, Closing.answer_inactive, Keeping.{active_stays, comp_main, main_goes}, Kept.{all_with, courses_of, no_courses, placed_further, placed_met}, LastCalls.locals_ended, Seeing.{at_longer, get_longer, met_self}, Simulation.some_if, TwinKeys.seen_by_twin_key, Twins.{locals_twin, matched, twin_ended, twin_then}}}
 
 -- ---- all courses
 
@@ -119,19 +120,13 @@ locals_run z n q run op t after = λ e own h act. subst (λ x. IsLocalsAfter z (
 -- ---- states
 
 pub going_same : (scripts : List ScriptView) (t u : Case) → u.behaviours ≡ t.behaviours → u.history ≡ t.history → IsGoing scripts t → IsGoing scripts u
-going_same scripts t u n h g =
-    let past : past_of u ≡ past_of t = ap reverse h in
-    record { on = record { behaviours = n ∙ g.on.behaviours; course = subst (IsCourse scripts) (sym past) g.on.course }; going = ap is_over past ∙ g.going }
+going_same scripts t u n h g = grind (arith, common_steps)
 
 pub local_self : (z : LocalSearch) → IsLocalSearch z → IsLocalFurther z z
 local_self z is = record { search = is; met = met_self z.met; found = λ i h. h }
 
 pub local_then : (a b c : LocalSearch) → IsLocalFurther a b → IsLocalFurther b c → IsLocalFurther a c
-local_then a b c h k = record {
-  search = k.search;
-  met = met_then a.met b.met c.met h.met k.met;
-  found = more_then a.marks.found.items b.marks.found.items c.marks.found.items h.found k.found;
-}
+local_then a b c h k = grind (arith, common_steps)
 
 -- more is found
 pub local_noted : (z : LocalSearch) (m : Marks) → IsLocalSearch z → AreLocals z.met.scripts.now m.found.items → IsMore z.marks.found.items m.found.items → IsLocalFurther z (record { met = z.met; marks = m })
@@ -171,10 +166,7 @@ local_next z t copy u run op after search state turn one number is going p = (
     placed = local_placed z u after search (record { on = on_copied z.met.scripts.now t copy u run op state.on one.behaviours one.entries number is turn; going = going }) p
 
 pub local_none : (z : LocalSearch) → 1 ≤ length z.met.scripts.now → length z.met.scripts.now ≤ BEHAVIOURS → z.met.states.items ≡ [] → z.met.keys.keys ≡ [] → z.met.is_whole ≡ true → z.marks.found.items ≡ [] → IsLocalSearch z
-local_none z some few none no_key whole nothing = record {
-  met = are_none true (IsGoing z.met.scripts.now) z.met some few none no_key whole;
-  sound = none_sound z.met.scripts.now z.marks.found.items nothing;
-}
+local_none z some few none no_key whole nothing = grind (arith, common_steps)
 
 pub courses_met : (z : LocalSearch) → IsLocalSearch z → IsDistinct (λ x y. pointwise nat_eq x.items y.items) z.met.keys.keys → HasCourses z.met.scripts.now (length z.met.keys.keys)
 courses_met z is distinct = (

@@ -1,9 +1,10 @@
 -- What is marked of the local verdicts of complete courses.
+use Rattle.std.proofs.lemmas.Grind.{common_steps}
 use Rattle.std.proofs.Common.{ℕ, zero, suc, ◌≡◌, ◌==◌, ◌+◌, ◌*◌, ◌<◌, ◌≤◌, ◌++◌, nat_lt, if◌then◌else◌, Bool, true, false, Some, None, List, [], ◌∷◌, length, set, get_or, refl, ap, sym, ◌∙◌, arith}
-use Rattle.std.proofs.lemmas.{Bool.Decides.nat_tests, List.{get_or-set_other, get_or-set_same}}
+use Rattle.std.proofs.lemmas.{Bool.Decides.nat_tests}
 use Rattle.tc_rules.{specs.Prelude.{Verdict, level_of, Entry, Case, past_of, components, exists, local_if_any}, proofs.Lemmas.{Deciding.{equal_if, self_equal}, Numbered.exists_below}}
 use Rattle.tc_step.specs.Prelude.{ScriptView}
-use Rattle.tc_course.{specs.Prelude.{IsComplete, IsOn, is_local}, proofs.Lemmas.{below_more, course_legal}}
+use Rattle.tc_course.{specs.Prelude.{IsComplete, IsOn}, proofs.Lemmas.{below_more, course_legal}}
 use Rattle.tc_explore.{specs.{Found.{AreLocals, GivesLocal}, Inside.{Seen.HasSameLocals, Twins.{HasLocal, HasLocals, IsMarked, IsMore, IsPadded}}}, proofs.Sameness.{at_most_error, same_verdict}}
 
 -- ---- one place
@@ -22,27 +23,15 @@ pub padded_more : (before after : List Bool) → IsPadded before after → IsPad
 padded_more before after h i = padded after i ∙ h i
 
 pub marked : (before after : List Bool) (at : ℕ) → at < length after → IsPadded before after → IsMarked before (set after at true) at
-marked before after at near padded i = by_place (i == at) refl
-  where
-    by_place : (t : Bool) → (i == at) ≡ t → get_or (set after at true) i false ≡ (if t then true else get_or before i false)
-    by_place true h = ap (λ k. get_or (set after at true) k false) (equal_if i at h) ∙ get_or-set_same after at true false near
-    by_place false h = get_or-set_other after at i true false (λ same. let yes : (i == at) ≡ true = ap (λ m. m == at) same ∙ self_equal at in absurd cc) ∙ padded i
+marked before after at near padded i = grind (arith, common_steps)
 
 -- ---- one component
 
 pub marked_more : (before after : List Bool) (at : ℕ) → IsMarked before after at → IsMore before after
-marked_more before after at m i h = m i ∙ by_place (i == at)
-  where
-    by_place : (t : Bool) → (if t then true else get_or before i false) ≡ true
-    by_place true = refl
-    by_place false = h
+marked_more before after at m i h = grind (arith, common_steps)
 
 pub known_has : (found : List Bool) (past : List Entry) (c : ℕ) (v : Verdict) (at : ℕ) → at ≡ c * 5 + level_of v → local_if_any past c ≡ Some v → get_or found at false ≡ true → HasLocal found past c
-known_has found past c v at place is known w other =
-    let some : Some v ≡ Some w = sym is ∙ other in
-    let same : v ≡ w = cc in
-    let here : c * 5 + level_of w ≡ at = ap (λ x. c * 5 + level_of x) (sym same) ∙ sym place in
-    ap (λ i. get_or found i false) here ∙ known
+known_has found past c v at place is known w other = grind (arith, common_steps)
 
 pub marked_has : (before after : List Bool) (past : List Entry) (c : ℕ) (v : Verdict) (at : ℕ) → at ≡ c * 5 + level_of v → local_if_any past c ≡ Some v → IsMarked before after at → HasLocal after past c
 marked_has before after past c v at place is m = known_has after past c v at place is (m at ∙ ap (λ t. if t then true else get_or before at false) (self_equal at))
@@ -103,6 +92,4 @@ pub ruleset marking_rules = (padded_none, padded_more, marked, marked_more, mark
 
 -- nothing is found yet
 pub none_sound : (scripts : List ScriptView) (found : List Bool) → found ≡ [] → AreLocals scripts found
-none_sound scripts found none c v h =
-    let out : is_local found c v ≡ false = ap (λ f. get_or f (c * 5 + level_of v) false) none in
-    absurd cc
+none_sound scripts found none c v h = grind (arith, common_steps)

@@ -1,5 +1,6 @@
 -- Searches for verdicts, each up to a better one: what they have found together.
-use Rattle.std.proofs.{lemmas.Bool.{and_parts, Decides.nat_tests, cases_lt}, Common.{ℕ, suc, ◌≡◌, ◌<◌, ◌≤◌, ◌&&◌, nat_le, if◌then◌else◌, Bool, true, false, Option, Some, None, List, refl, ap, sym, subst, ◌∙◌, arith, [], length, reverse, slice_get, ⊎_elim}}
+use Rattle.std.proofs.lemmas.Grind.{common_steps}
+use Rattle.std.proofs.{lemmas.Bool.{and_parts, Decides.nat_tests, cases_lt}, Common.{ℕ, suc, ◌≡◌, ◌<◌, ◌≤◌, nat_le, if◌then◌else◌, Bool, true, false, Option, Some, None, List, refl, ap, sym, subst, ◌∙◌, arith, [], length, reverse, slice_get, ⊎_elim}}
 use Rattle.tc_rules.specs.Prelude.{Verdict, level_of, Case, past_of, overall}
 use Rattle.tc_step.specs.Prelude.{ScriptView}
 use Rattle.tc_course.specs.{declared.witness.Witness.Witness, Prelude.{is_found, AllFound}}
@@ -19,11 +20,7 @@ within_if found aim w h l = let near : nat_le (level_of w) (level_of aim) ≡ tr
 
 -- a verdict of which one as bad is found is no worse than the worst of these
 told_below : (found : List Witness) (aim v : Verdict) (n : ℕ) → IsNoneFrom found aim (suc n) → IsToldBy aim found v → level_of v ≤ n
-told_below found aim v n none told =
-    ⊎_elim (λ (high : n < level_of told.0).
-    let off : is_found_within found aim told.0 ≡ false = none told.0 (omega (arith, high)) in
-    let on : is_found_within found aim told.0 ≡ true = within_if found aim told.0 told.1 told.3 in
-    absurd cc) (λ (low : level_of told.0 ≤ n). let less = told.2 in omega (arith, less, low)) (cases_lt n (level_of told.0))
+told_below found aim v n none told = grind (arith, common_steps)
 
 decided_if : (found : List Witness) (aim m a : Verdict) (rest : Option Verdict) → level_of m ≡ suc (level_of a) → IsNoneFrom found aim (suc (level_of m)) →
     (IsNoneFrom found aim (level_of m) → IsDecided found aim rest) → IsDecided found aim (if is_found_within found aim m then Some a else rest)
@@ -52,18 +49,7 @@ abbrev from_fail : List Witness → Verdict → Option Verdict
 from_fail found aim = if is_found_within found aim Verdict.Fail then Some Verdict.Inconc else from_inconc found aim
 
 decided : (found : List Witness) (aim : Verdict) → IsDecided found aim (next_aim found aim)
-decided found aim =
-    decided_if found aim Verdict.Error Verdict.Fail (from_fail found aim) refl (λ w l. let most = at_most_error w in absurd (omega (arith, l, most)))
-    (λ error. decided_if found aim Verdict.Fail Verdict.Inconc (from_inconc found aim) refl error
-    (λ fail. decided_if found aim Verdict.Inconc Verdict.Pass (from_pass found aim) refl fail
-    (λ inconc. decided_if found aim Verdict.Pass Verdict.None None refl inconc
-    (λ pass. λ v told. only_none pass v told (told_below found aim v 0 pass told)))))
-  where
-    only_none : IsNoneFrom found aim 1 → (v : Verdict) → IsToldBy aim found v → level_of v ≤ 0 → is_found found v ≡ true
-    only_none pass v told low =
-        let high = told_below found aim told.0 0 pass (told.0, told.1, omega arith, told.3) in
-        let same : level_of v ≡ level_of told.0 = omega (arith, low, high) in
-        ap (is_found found) (same_verdict v told.0 same) ∙ told.1
+decided found aim = grind (arith, common_steps)
 
 abbrev verdict_of : Option Verdict → Verdict
 verdict_of (Some v) = v
@@ -71,23 +57,11 @@ verdict_of None = Verdict.None
 
 lower_if : (found : List Witness) (aim m b a : Verdict) (rest : Option Verdict) → level_of m ≡ suc (level_of b) → (Some a ≡ rest → level_of a < level_of aim)
     → Some a ≡ (if is_found_within found aim m then Some b else rest) → level_of a < level_of aim
-lower_if found aim m b a rest next later is = by_test (nat_le (level_of m) (level_of aim)) (is_found found m) refl is
-  where
-    by_test : (s t : Bool) → nat_le (level_of m) (level_of aim) ≡ s → Some a ≡ (if s && t then Some b else rest) → level_of a < level_of aim
-    by_test true true k e =
-        let near : level_of m ≤ level_of aim = grind (arith, nat_tests) in
-        let same : level_of a ≡ level_of b = ap (λ o. level_of (verdict_of o)) e in
-        omega (arith, near, same, next)
-    by_test true false k e = later e
-    by_test false t k e = later e
+lower_if found aim m b a rest next later is = grind (arith, common_steps)
 
 -- the next aim is a better verdict
 pub lower : (found : List Witness) (aim a : Verdict) → Some a ≡ next_aim found aim → level_of a < level_of aim
-lower found aim a =
-    lower_if found aim Verdict.Error Verdict.Fail a (from_fail found aim) refl
-    (lower_if found aim Verdict.Fail Verdict.Inconc a (from_inconc found aim) refl
-    (lower_if found aim Verdict.Inconc Verdict.Pass a (from_pass found aim) refl
-    (lower_if found aim Verdict.Pass Verdict.None a None refl (λ e. absurd cc))))
+lower found aim a = grind (arith, common_steps)
 
 -- one search more
 pub above_next : (scripts : List ScriptView) (f g : List Witness) (aim a : Verdict) → IsLonger f g → AreFoundAbove aim scripts f → AllTold aim scripts g → Some a ≡ next_aim g aim → AreFoundAbove a scripts g

@@ -1,9 +1,10 @@
 -- Witnesses of which no verdict has two. Each is a legal history.
-use Rattle.std.{proofs.{lemmas.{Bool.{Decides.nat_tests, cases_order, false_from_ne_true}, List.{Elements.All-push, Sorted.{All-permutation, list_any-IsPermutation}, get_or_append_left, Folds.list_any_at}, Map.Keys.{IsDistinct-IsPermutation, IsDistinct-from_apart, apart_from_distinct}}, Common.{ℕ, ◌≡◌, ◌==◌, ◌<◌, ◌≤◌, Bool, true, false, nat_lt, List, [], ◌∷◌, ◌++◌, length, reverse, get_or, refl, ap, sym, ◌∙◌, arith, length-append, ⊎_elim}, Math.Seq.get_or-append_seam}, specs.List.{IsDistinct, Sorted.{IsNonDecreasingBy, IsPermutation}}}
-use Rattle.tc_rules.{specs.Prelude.{Verdict, level_of}, proofs.Lemmas.Deciding.{equal_if, self_equal}}
+use Rattle.std.proofs.lemmas.Grind.{common_steps}
+use Rattle.std.{proofs.{lemmas.{Bool.{Decides.nat_tests, cases_order}, List.{Sorted.{All-permutation, list_any-IsPermutation}, Folds.list_any_at}, Map.Keys.{IsDistinct-IsPermutation, IsDistinct-from_apart, apart_from_distinct}}, Common.{ℕ, ◌≡◌, ◌==◌, ◌<◌, ◌≤◌, Bool, true, false, List, [], ◌∷◌, ◌++◌, length, reverse, get_or, ap, sym, ◌∙◌, arith, ⊎_elim}}, specs.List.{IsDistinct, Sorted.{IsNonDecreasingBy, IsPermutation}}}
+use Rattle.tc_rules.{specs.Prelude.{Verdict, level_of}, proofs.Lemmas.Deciding.{self_equal}}
 use Rattle.tc_step.specs.Prelude.{ScriptView}
 use Rattle.tc_course.{specs.{declared.witness.Witness.Witness, Prelude.{IsWitness, AllFound, is_found, AreLegal, AreWitnesses}}, proofs.Lemmas.course_legal}
-use Rattle.tc_explore.{specs.{Found.{AreCovered, AreFromBest, Covers}, Inside.Seen.{AreNoted, IsOnce}}, proofs.Sameness.same_verdict}
+use Rattle.tc_explore.{specs.{Found.{AreCovered, AreFromBest, Covers}, Inside.Seen.{AreNoted, IsOnce}}}
 
 -- the verdict of one of them is found
 found_at : (found : List Witness) (i : ℕ) (d : Witness) (v : Verdict) → i < length found → (get_or found i d).verdict ≡ v → is_found found v ≡ true
@@ -16,40 +17,10 @@ some_found (w ∷ ws) v is = omega arith
 
 -- one more, whose verdict is new
 once_more : (found : List Witness) (w : Witness) → IsOnce found → is_found found w.verdict ≡ false → IsOnce (found ++ w ∷ [])
-once_more found w once new = λ i j d near_i near_j same. by_places i j d near_i near_j same (nat_lt i (length found)) refl (nat_lt j (length found)) refl
-  where
-    inside : (k : ℕ) → nat_lt k (length found) ≡ true → k < length found
-    inside k h = grind (arith, nat_tests)
-
-    last : (k : ℕ) → nat_lt k (length found) ≡ false → k < length (found ++ w ∷ []) → k ≡ length found
-    last k h near =
-        let size = length-append found (w ∷ []) in
-        let out : length found ≤ k = grind (arith, nat_tests) in
-        omega (arith, size)
-
-    left : (k : ℕ) (d : Witness) → k < length found → (get_or (found ++ w ∷ []) k d).verdict ≡ (get_or found k d).verdict
-    left k d h = ap (λ (x : Witness). x.verdict) (get_or_append_left found (w ∷ []) d k h)
-
-    right : (k : ℕ) (d : Witness) → k ≡ length found → (get_or (found ++ w ∷ []) k d).verdict ≡ w.verdict
-    right k d h = ap (λ n. (get_or (found ++ w ∷ []) n d).verdict) h ∙ ap (λ (x : Witness). x.verdict) (get_or-append_seam found w [] d)
-
-    by_places : (i j : ℕ) (d : Witness) → i < length (found ++ w ∷ []) → j < length (found ++ w ∷ []) → (get_or (found ++ w ∷ []) i d).verdict ≡ (get_or (found ++ w ∷ []) j d).verdict →
-        (s : Bool) → nat_lt i (length found) ≡ s → (t : Bool) → nat_lt j (length found) ≡ t → i ≡ j
-    by_places i j d near_i near_j same true a true b =
-        once i j d (inside i a) (inside j b) (sym (left i d (inside i a)) ∙ (same ∙ left j d (inside j b)))
-    by_places i j d near_i near_j same false a false b = last i a near_i ∙ sym (last j b near_j)
-    by_places i j d near_i near_j same true a false b =
-        let there : is_found found w.verdict ≡ true = found_at found i d w.verdict (inside i a) (sym (left i d (inside i a)) ∙ (same ∙ right j d (last j b near_j))) in
-        absurd cc
-    by_places i j d near_i near_j same false a true b =
-        let there : is_found found w.verdict ≡ true = found_at found j d w.verdict (inside j b) (sym (left j d (inside j b)) ∙ (sym same ∙ right i d (last i a near_i))) in
-        absurd cc
+once_more found w once new = grind (arith, common_steps)
 
 pub noted_more : (scripts : List ScriptView) (found : List Witness) (w : Witness) → AreNoted scripts found → IsWitness scripts w.history w.verdict → is_found found w.verdict ≡ false → AreNoted scripts (found ++ w ∷ [])
-noted_more scripts found w noted one new = record {
-  sound = All-push (λ x. IsWitness scripts x.history x.verdict) found w noted.sound one;
-  once = once_more found w noted.once new;
-}
+noted_more scripts found w noted one new = grind (arith, common_steps)
 
 pub once_none : IsOnce []
 once_none i j d near_i near_j same = absurd (omega arith)
@@ -67,10 +38,7 @@ flip_equal m n = grind (arith, nat_tests)
 
 apart_if_once : (found : List Witness) → IsOnce found → (i j : ℕ) (d : Witness) → i < j → j < length found → has_same (get_or found i d) (get_or found j d) ≡ false
 unfolding has_same
-apart_if_once found once i j d less near = false_from_ne_true (level_of (get_or found i d).verdict == level_of (get_or found j d).verdict) (λ k.
-    let same = same_verdict (get_or found i d).verdict (get_or found j d).verdict (equal_if (level_of (get_or found i d).verdict) (level_of (get_or found j d).verdict) k) in
-    let is : i ≡ j = once i j d (omega (arith, less, near)) near same in
-    omega (arith, is, less))
+apart_if_once found once i j d less near = grind (arith, common_steps)
 
 once_if_distinct : (found : List Witness) → IsDistinct has_same found → IsOnce found
 unfolding has_same
@@ -102,10 +70,7 @@ all_found_moved scripts before after moved all history v is = sym (list_any-IsPe
 -- in their order, and each verdict once
 pub from_best : (found : List Witness) → IsNonDecreasingBy (λ w. level_of w.verdict) found → IsOnce found → AreFromBest found
 unfolding has_same
-from_best found ordered once i j d less near =
-    let low : level_of (get_or found i d).verdict ≤ level_of (get_or found j d).verdict = ordered i j d (omega (arith, less)) near in
-    let apart : (level_of (get_or found i d).verdict == level_of (get_or found j d).verdict) ≡ false = apart_if_once found once i j d less near in
-    grind (arith, nat_tests)
+from_best found ordered once i j d less near = grind (arith, common_steps)
 
 pub best_none : AreFromBest []
 best_none i j d less near = absurd (omega arith)

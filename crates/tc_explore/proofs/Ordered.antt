@@ -1,7 +1,8 @@
 -- For what runs wait from now on: each component that they wait for comes before their own by rank, so that they do not wait
 -- for one another.
+use Rattle.std.proofs.lemmas.Grind.{common_steps}
 use Rattle.std.{proofs.Common.{ℕ, ◌≡◌, ◌+◌, ◌≤◌, ◌==◌, ◌⊎◌, inl, inr, if◌then◌else◌, Bool, true, false, Option, Some, None, is_some, List, ◌∷◌, length, slice_get, refl, ap, sym, subst, ◌∙◌, arith}, specs.Option.unwrap_or}
-use Rattle.tc_rules.{specs.Prelude.{Comp, Entry, Op, comp_of, created, started_on, first_some, phase, phase_if_any, is_active, is_active_on, is_run_of, IsLegal, Verdict, is_wake, Phase}, proofs.Lemmas.{Deciding.{and_left, equal_if, first_alone}, Going.{halted_by_entry, started_by_entry}}}
+use Rattle.tc_rules.{specs.Prelude.{Comp, Entry, Op, comp_of, created, started_on, first_some, phase, phase_if_any, is_active, IsLegal, Verdict, is_wake, Phase}, proofs.Lemmas.{Deciding.{and_left, equal_if, first_alone}, Going.{halted_by_entry, started_by_entry}}}
 use Rattle.tc_step.specs.{declared.step.Step.Step, Prelude.ScriptView}
 use Rattle.tc_course.{specs.{Prelude.{CourseState, stand, after_own, steps_of, IsTurn, IsCourse}, Inside.{wake_if, call_of}}, proofs.Lemmas.{course_legal, HasTurn, has_turn, never_wake, stand_own, stand_other, stand_comp}}
 use Rattle.tc_explore.{specs.Inside.Simulation.{IsAlike, is_gone, place_by, IsAhead, IsOrdered, AreOrdered}, proofs.{Alike.any_phase_same, Late.{gone_if, gone_is, gone_next}, Places.own_call}}
@@ -28,9 +29,7 @@ ordered_own scripts rank q c b s e made wakes h = λ k killed t l call.
 
 pub not_on_killed : (past : List Entry) (b c : ℕ) → is_active past b ≡ true → comp_of past b ≡ Some (record { 0 = c }) → phase past c ≡ Phase.Killed → ⊥
 unfolding is_active
-not_on_killed past b c act on dead =
-    let off : is_active_on past b (comp_of past b) ≡ false = ap (is_active_on past b) on ∙ ap (is_run_of b) dead in
-    absurd cc
+not_on_killed past b c act on dead = grind (arith, common_steps)
 
 -- a run that continues continued before an entry that starts nothing
 pub was_active : (n : ℕ) (past : List Entry) (e : Entry) → IsLegal n (e ∷ past) → ((b : ℕ) → started_on e b ≡ None) → (b : ℕ) → is_active (e ∷ past) b ≡ true → is_active past b ≡ true

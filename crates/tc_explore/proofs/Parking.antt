@@ -1,8 +1,9 @@
 -- A case in which no run can continue: each that is running is parked, and the main component's Wake is an error.
+use Rattle.std.proofs.lemmas.Grind.{common_steps}
 use Rattle.std.proofs.{Common.{ℕ, ◌≡◌, ◌<◌, ◌≤◌, ◌+◌, ◌==◌, ◌⊎◌, inl, inr, if◌then◌else◌, Bool, true, false, Option, Some, None, List, ◌∷◌, length, slice_get, slice_index_or, refl, ap, sym, subst, ◌∙◌, arith, get_or}, lemmas.{Bool.false_from_ne_true, List.Sums.list_all-from_AllPass}}
 use Rattle.tc_rules.{specs.Prelude.{Run, Comp, Entry, Op, Target, Phase, Reply, Fault, is_ended, is_fault, is_wake, Case, past_of, comps, comp_of, is_alive_type, is_over, phase, last_run, was_killed, was_halted, overall, holds, waiting, waits_in_vain, is_still, is_stuck, fault, answer, plain_answer, is_active, is_run_of, IsLegal, Verdict}, proofs.Lemmas.{Deciding.{equal_if, self_equal}, Going.last_on_it, Steps.phase_by, Decided.overall_more}}
 use Rattle.tc_step.specs.Prelude.{ScriptView}
-use Rattle.tc_course.{specs.{Inside.{call_of, one_more_if}, Prelude.{CourseState, stand, goes_on, carried_on, turn, steps_of, IsTurn, IsCourse, is_found, IsOn}}, proofs.Lemmas.{course_legal, other_not_idle, has_turn, turn_of, never_wake, stand_own, stand_other, stand_comp, run_in_range, below_more}}
+use Rattle.tc_course.{specs.{Inside.{call_of, one_more_if}, Prelude.{CourseState, stand, goes_on, carried_on, turn, steps_of, IsTurn, IsCourse, is_found, IsOn}}, proofs.Lemmas.{course_legal, other_not_idle, has_turn, turn_of, never_wake, stand_own, stand_comp, run_in_range, below_more}}
 use Rattle.tc_explore.{specs.{Found.Covers, Inside.{Seen.{AreHeld, AreStill, HasNoWake, IsOpen, IsRunClosed, IsStepped, IsSteppedIfActive}, Simulation.{GoesOn, IsAlike, is_quiet}}, declared.search.Search.Search}, proofs.{Alike.{ChangesNothing, active_alike, alike_unchanged, fault_alike, holds_alike}, Closing.{answer_fault, error_is_worst, fault_of_wait, not_ended, parks_wait, quiet_reply}, Keeping.{active_stays, comp_main, main_goes}, LastCalls.turn_by, Places.{not_ending, stand_still}, Simulation.{some_if, unchanged_wait}, Ahead.{answer_plain, active_if}}}
 
 -- ---- who is held
@@ -90,12 +91,7 @@ pub record AreParked (scripts : List ScriptView) (t u : Case) (k : ℕ) : Type 0
   pub main : carried_on (past_of u) 0 ≡ carried_on (past_of t) 0
 
 pub parked_none : (scripts : List ScriptView) (t : Case) → AreParked scripts t t 0
-parked_none scripts t = record {
-  alike = record { comps_same = refl; phase_same = λ c. refl; kind_same = λ c. refl; comp_same = λ b. refl };
-  parked = λ b less. absurd (omega arith);
-  later = λ b less. refl;
-  main = refl;
-}
+parked_none scripts t = grind (arith, common_steps)
 
 pub parked_skip : (scripts : List ScriptView) (t u : Case) (k : ℕ) → is_active (past_of u) k ≡ false → AreParked scripts t u k → AreParked scripts t u (k + 1)
 parked_skip scripts t u k off h = record {
@@ -106,12 +102,7 @@ parked_skip scripts t u k off h = record {
 }
 
 pub alike_then : (p q r : List Entry) → IsAlike p q → IsAlike q r → IsAlike p r
-alike_then p q r a b = record {
-  comps_same = a.comps_same ∙ b.comps_same;
-  phase_same = λ c. a.phase_same c ∙ b.phase_same c;
-  kind_same = λ c. a.kind_same c ∙ b.kind_same c;
-  comp_same = λ c. a.comp_same c ∙ b.comp_same c;
-}
+alike_then p q r a b = grind (arith, common_steps)
 
 -- a call that does not continue is not carried out
 not_carried : (own : Bool) (e : Entry) (k : ℕ) → goes_on e.reply ≡ false → one_more_if own e k ≡ k
@@ -169,18 +160,7 @@ module _ (scripts : List ScriptView) (q r : List Entry) (e : Entry) (b : ℕ) (o
   }
 
   still_parked : (c : ℕ) → (e.caller.0 == c) ≡ false → is_active q c ≡ true → IsParkedIn scripts q r c → IsParkedIn scripts q (e ∷ r) c
-  still_parked c other act_c p =
-      let on_c = some_if r c (active_alike a c ∙ act_c) in
-      let stands : stand (e ∷ r) c ≡ stand r c = stand_other r e c on_c.0 other (stand_comp scripts r c cr ∙ on_c.1) in
-      record {
-        killed = p.killed;
-        target = p.target;
-        wake = ap (λ (s : CourseState). s.wake) stands ∙ p.wake;
-        stays = ap (λ (s : CourseState). s.left) stands ∙ p.stays;
-        waits = rw other p.waits;
-        no_fault = p.no_fault;
-        unmet = p.unmet;
-      }
+  still_parked c other act_c p = grind (arith, common_steps)
 
 unequal : (x y z : ℕ) → x ≡ y → (y ≡ z → ⊥) → (x == z) ≡ false
 unequal x y z h k = false_from_ne_true (x == z) (λ j. k (sym h ∙ equal_if x z j))
@@ -362,6 +342,4 @@ never_held scripts q some course goes held =
 
 -- more calls of the main run are counted than it carries out in a course that one more continues
 pub reached_main : (scripts : List ScriptView) (reached : List ℕ) (q r : List Entry) → 1 ≤ length scripts → length reached ≡ length scripts → carried_on r 0 ≡ carried_on q 0 + 1 → Covers reached r → carried_on q 0 < slice_index_or reached 0 0
-reached_main scripts reached q r some as_many one covers =
-    let most : carried_on r 0 ≤ slice_index_or reached 0 0 = covers 0 (omega (arith, some, as_many)) in
-    omega (arith, most, one)
+reached_main scripts reached q r some as_many one covers = grind (arith, common_steps)

@@ -1,8 +1,9 @@
 -- The place of a run after its own turn.
-use Rattle.std.{proofs.{lemmas.Bool.{and_parts, or_from, or_right, Decides.nat_tests, cases_lt, or_cases, or_left, or_parts}, Common.{ℕ, suc, ◌≡◌, ◌+◌, ◌<◌, ◌≤◌, ◌==◌, ◌&&◌, ◌||◌, ◌⊎◌, inl, inr, not, if◌then◌else◌, Bool, true, false, Option, Some, None, MatchOption, List, [], ◌∷◌, ◌++◌, length, refl, ap, sym, subst, ◌∙◌, arith, append-nil, ⊎_elim, slice_get}}, specs.{List.list_all, Option.{option_to_list, unwrap_or}}}
-use Rattle.tc_rules.{specs.Prelude.{Verdict, level_of, Comp, Entry, Op, Reply, Fault, is_ended, is_wake, ends_pass, comp_of, created, halts, exists, overall, fault, all_exist, names, asks_many, special_fault, IsLegal, UserVerdict, given, started_on}, proofs.Lemmas.{Over.stays, Deciding.equal_if}}
+use Rattle.std.proofs.lemmas.Grind.{common_steps}
+use Rattle.std.{proofs.{lemmas.Bool.{and_parts, or_right, Decides.nat_tests, cases_lt, or_cases, or_left, or_parts}, Common.{ℕ, suc, ◌≡◌, ◌+◌, ◌<◌, ◌≤◌, ◌==◌, ◌&&◌, ◌||◌, ◌⊎◌, inl, inr, not, if◌then◌else◌, Bool, true, false, Option, Some, None, MatchOption, List, [], ◌∷◌, length, refl, ap, sym, subst, ◌∙◌, arith, append-nil, ⊎_elim, slice_get}}, specs.{List.list_all, Option.{unwrap_or}}}
+use Rattle.tc_rules.{specs.Prelude.{Verdict, level_of, Comp, Entry, Op, Reply, Fault, is_ended, is_wake, ends_pass, comp_of, created, exists, overall, fault, all_exist, names, asks_many, special_fault, IsLegal, UserVerdict, given, started_on}, proofs.Lemmas.{Over.stays}}
 use Rattle.tc_step.specs.Prelude.{ScriptView}
-use Rattle.tc_course.{specs.{Prelude.{CourseState, after_own, stand, turn, steps_of, after_other_by}, Inside.{ends, wake_for, wake_if, call_of}}, proofs.Lemmas.{has_turn, never_wake, stand_own, wake_after_other}}
+use Rattle.tc_course.{specs.{Prelude.{CourseState, after_own, stand, turn, steps_of}, Inside.{ends, wake_for, wake_if, call_of}}, proofs.Lemmas.{has_turn, never_wake}}
 use Rattle.tc_explore.{specs.Inside.Simulation.{is_quiet, is_late, is_met, is_spent, WasParked, IsQuietAt, call_at, IsWakeOf, IsBefore, IsParkedAt, IsFollowed, IsLastAt, IsLeaving, is_barred, IsBarredBefore}, proofs.{Ahead.KeepsQuiet, Alike.{ChangesNothing, overall_grows}, Late.{late_next, late_special, met_next, met_special}}}
 
 pub or_no : (a : Bool) → (a || false) ≡ a
@@ -21,9 +22,7 @@ one_more_called e s h = rw h refl
 -- what changes nothing ends no pass
 pub not_ending : (past : List Entry) (e : Entry) (o : Option Comp) (me : Comp) → ChangesNothing past e → o ≡ Some me → comp_of past e.caller.0 ≡ Some me → is_ended e.reply ≡ false → ends o e ≡ false
 unfolding ends_pass
-not_ending past e o me u same on r =
-    let h : halts (Some me) e me.0 ≡ false = subst (λ x. halts x e me.0 ≡ false) on (u.no_halt me.0) in
-    subst (λ x. ends x e ≡ false) (sym same) (or_from (is_ended e.reply) (halts (Some me) e me.0) r h)
+not_ending past e o me u same on r = grind (arith, common_steps)
 
 pub quiet_sets_no_wake : (w : Verdict) (op : Op) (r : Reply) → is_quiet w op ≡ true → wake_if op r ≡ None
 quiet_sets_no_wake w op Reply.Parked h = by_op op h
@@ -47,39 +46,18 @@ followed_own scripts q b s t e f made stays_on place = record { comp = f.comp; b
 -- a quiet call that the other has made already
 pub behind : (scripts : List ScriptView) (q : List Entry) (b : ℕ) (s t : CourseState) (e : Entry) → IsFollowed scripts q b s t → s.wake ≡ None → s.called < t.called →
     created e.op e.reply ≡ None → ends s.comp e ≡ false → is_wake e.op ≡ false → wake_if e.op e.reply ≡ None → IsFollowed scripts q b (after_own e s) t
-behind scripts q b s t e f none less made stays_on plain no_wake =
-    let before = before_of scripts q b s t none f in
-    let called = one_more_called e s plain in
-    let now : IsBefore scripts q b (after_own e s) t = record { fewer = omega (arith, called); between = λ k l m. before.between k (omega (arith, called)) m } in
-    followed_own scripts q b s t e f made stays_on
-    (subst (λ o. MatchOption o (IsBefore scripts q b (after_own e s) t) (IsParkedAt scripts q b (after_own e s) t)) (sym no_wake) now)
+behind scripts q b s t e f none less made stays_on plain no_wake = grind (arith, common_steps)
 
 -- a Wait that is parked
 pub parked : (scripts : List ScriptView) (q : List Entry) (b : ℕ) (s t : CourseState) (e : Entry) (wake : Op) → IsFollowed scripts q b s t → s.wake ≡ None →
     created e.op e.reply ≡ None → ends s.comp e ≡ false → is_wake e.op ≡ false → wake_if e.op e.reply ≡ Some wake → IsWakeOf (call_at scripts b t t.comp s.called) wake →
     IsFollowed scripts q b (after_own e s) t
-parked scripts q b s t e wake f none made stays_on plain to_come of =
-    let before = before_of scripts q b s t none f in
-    let called = one_more_called e s plain in
-    let now : IsParkedAt scripts q b (after_own e s) t wake = record {
-      place = s.called;
-      one_more = omega (arith, called);
-      fewer = before.fewer;
-      wake_of = of;
-      between = before.between;
-    } in
-    followed_own scripts q b s t e f made stays_on
-    (subst (λ o. MatchOption o (IsBefore scripts q b (after_own e s) t) (IsParkedAt scripts q b (after_own e s) t)) (sym to_come) now)
+parked scripts q b s t e wake f none made stays_on plain to_come of = grind (arith, common_steps)
 
 -- a Wake that is answered Matched, of a Wait that the other has made already
 pub woken_behind : (scripts : List ScriptView) (q : List Entry) (b : ℕ) (s t : CourseState) (e : Entry) (wake : Op) → IsFollowed scripts q b s t → (at : IsParkedAt scripts q b s t wake) → at.place < t.called →
     created e.op e.reply ≡ None → ends s.comp e ≡ false → is_wake e.op ≡ true → wake_if e.op e.reply ≡ None → IsFollowed scripts q b (after_own e s) t
-woken_behind scripts q b s t e wake f at less made stays_on wakes none =
-    let called : (after_own e s).called ≡ s.called = rw wakes refl in
-    let more = at.one_more in
-    let now : IsBefore scripts q b (after_own e s) t = record { fewer = omega (arith, called, more, less); between = λ k l m. at.between k (omega (arith, called, more, l)) m } in
-    followed_own scripts q b s t e f made stays_on
-    (subst (λ o. MatchOption o (IsBefore scripts q b (after_own e s) t) (IsParkedAt scripts q b (after_own e s) t)) (sym none) now)
+woken_behind scripts q b s t e wake f at less made stays_on wakes none = grind (arith, common_steps)
 
 -- what is called at a place stays so after a call that makes no component
 pub own_call : (scripts : List ScriptView) (b : ℕ) (s : CourseState) (e : Entry) → created e.op e.reply ≡ None → (o : Option Comp) (k : ℕ) → call_at scripts b (after_own e s) o k ≡ call_at scripts b s o k
@@ -135,11 +113,7 @@ leaving_own {aim} scripts q b s e made parked more from l = record { parked = pa
 
 from_behind : (aim : Verdict) (scripts : List ScriptView) (b : ℕ) (s : CourseState) (e : Entry) → is_wake e.op ≡ false → is_barred aim (call_at scripts b s s.comp s.called) ≡ false → (j : ℕ) → s.called ≤ j →
     is_barred aim (call_at scripts b s s.comp j) ≡ true → (after_own e s).called ≤ j
-from_behind aim scripts b s e plain free j l bars =
-    ⊎_elim (λ (less : s.called < j). omega (arith, one_more_called e s plain, less)) (λ (far : j ≤ s.called).
-    let same : j ≡ s.called = omega (arith, l, far) in
-    let no : is_barred aim (call_at scripts b s s.comp j) ≡ false = ap (λ x. is_barred aim (call_at scripts b s s.comp x)) same ∙ free in
-    absurd cc) (cases_lt s.called j)
+from_behind aim scripts b s e plain free j l bars = grind (arith, common_steps)
 
 -- a quiet call of a run that is leaving
 pub leaving_on : {aim : Verdict} (scripts : List ScriptView) (q : List Entry) (b : ℕ) (s : CourseState) (e : Entry) → IsLeaving aim scripts q b s →
@@ -175,39 +149,17 @@ leaving_woken {aim} scripts q b s e l made wakes none =
 -- the same call of both, which is not parked
 pub together : (scripts : List ScriptView) (q r : List Entry) (b : ℕ) (s t : CourseState) (e : Entry) → IsFollowed scripts q b s t → s.called ≡ t.called →
     is_wake e.op ≡ false → wake_if e.op e.reply ≡ None → IsFollowed scripts r b (after_own e s) (after_own e t)
-together scripts q r b s t e f same plain no_wake =
-    let cs = one_more_called e s plain in
-    let ct = one_more_called e t plain in
-    let now : IsBefore scripts r b (after_own e s) (after_own e t) = record { fewer = omega (arith, cs, ct, same); between = λ k l m. absurd (omega (arith, cs, ct, same)) } in
-    record {
-      comp = f.comp;
-      bound = ap (λ x. x ++ option_to_list (created e.op e.reply)) f.bound;
-      left = rw (f.left, f.comp) refl;
-      no_wake = no_wake;
-      place = subst (λ o. MatchOption o (IsBefore scripts r b (after_own e s) (after_own e t)) (λ w. IsParkedAt scripts r b (after_own e s) (after_own e t) w)) (sym no_wake) now;
-    }
+together scripts q r b s t e f same plain no_wake = grind (arith, common_steps)
 
 -- a Wake of the one, and a Wait of the other, with the same reply
 pub woken : (scripts : List ScriptView) (q r : List Entry) (b : ℕ) (s t : CourseState) (d e : Entry) → IsFollowed scripts q b s t → s.called ≡ suc t.called →
     created d.op d.reply ≡ None → created e.op e.reply ≡ None → ends s.comp d ≡ false → ends t.comp e ≡ false →
     is_wake d.op ≡ true → is_wake e.op ≡ false → wake_if d.op d.reply ≡ None → wake_if e.op e.reply ≡ None → IsFollowed scripts r b (after_own d s) (after_own e t)
-woken scripts q r b s t d e f one_more made_d made_e stays_d stays_e wakes waits none_d none_e =
-    let cs : (after_own d s).called ≡ s.called = rw wakes refl in
-    let ct = one_more_called e t waits in
-    let now : IsBefore scripts r b (after_own d s) (after_own e t) = record { fewer = omega (arith, cs, ct, one_more); between = λ k l m. absurd (omega (arith, cs, ct, one_more)) } in
-    record {
-      comp = f.comp;
-      bound = kept_bound d s made_d ∙ (f.bound ∙ sym (kept_bound e t made_e));
-      left = kept_left d s stays_d ∙ (f.left ∙ sym (kept_left e t stays_e));
-      no_wake = none_e;
-      place = subst (λ o. MatchOption o (IsBefore scripts r b (after_own d s) (after_own e t)) (λ w. IsParkedAt scripts r b (after_own d s) (after_own e t) w)) (sym none_d) now;
-    }
+woken scripts q r b s t d e f one_more made_d made_e stays_d stays_e wakes waits none_d none_e = grind (arith, common_steps)
 
 -- the same is known
 pub followed_self : (scripts : List ScriptView) (q : List Entry) (b : ℕ) (s : CourseState) → s.wake ≡ None → IsFollowed scripts q b s s
-followed_self scripts q b s none =
-    let now : IsBefore scripts q b s s = record { fewer = omega arith; between = λ k l m. absurd (omega arith) } in
-    record { comp = refl; bound = refl; left = refl; no_wake = none; place = subst (λ o. MatchOption o (IsBefore scripts q b s s) (λ w. IsParkedAt scripts q b s s w)) (sym none) now }
+followed_self scripts q b s none = grind (arith, common_steps)
 
 -- ---- quiet calls stay quiet after any entry
 
@@ -279,11 +231,7 @@ quiet_free w aim _ l h = refl
 
 -- one that an entry neither starts nor comes from is where it was
 pub stand_still : (past : List Entry) (e : Entry) (b : ℕ) → (e.caller.0 == b) ≡ false → started_on e b ≡ None → stand (e ∷ past) b ≡ stand past b
-stand_still past e b other none = rw other (by_comp (stand past b).comp)
-  where
-    by_comp : (o : Option Comp) → after_other_by o e b (stand past b) ≡ stand past b
-    by_comp (Some c) = refl
-    by_comp None = rw none refl
+stand_still past e b other none = grind (arith, common_steps)
 
 -- with no Wake to come it calls its next step
 pub next_of : (scripts : List ScriptView) (q : List Entry) (b : ℕ) (op : Op) → (stand q b).wake ≡ None → turn scripts q b ≡ Some op → call_at scripts b (stand q b) (stand q b).comp (stand q b).called ≡ op
@@ -308,10 +256,4 @@ wake_of_turn scripts q b wake op some turns =
 
 -- after an entry
 pub wake_after : (past : List Entry) (e : Entry) (b : ℕ) → (stand (e ∷ past) b).wake ≡ (if e.caller.0 == b then wake_if e.op e.reply else (stand past b).wake)
-wake_after past e b = by_test (e.caller.0 == b) refl
-  where
-    by_test : (t : Bool) → (e.caller.0 == b) ≡ t → (stand (e ∷ past) b).wake ≡ (if t then wake_if e.op e.reply else (stand past b).wake)
-    by_test true k = ap (λ (s : CourseState). s.wake) (stand_own past e b (equal_if e.caller.0 b k))
-    by_test false k =
-        let other : stand (e ∷ past) b ≡ after_other_by (stand past b).comp e b (stand past b) = rw k refl in
-        ap (λ (s : CourseState). s.wake) other ∙ wake_after_other (stand past b).comp (started_on e b) e b (stand past b) refl
+wake_after past e b = grind (arith, common_steps)

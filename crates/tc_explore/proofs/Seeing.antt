@@ -1,4 +1,5 @@
 -- What a search has seen and found stays so while its lists grow.
+use Rattle.std.proofs.lemmas.Grind.{common_steps}
 use Rattle.std.proofs.{Common.{ℕ, ◌≡◌, ◌<◌, ◌==◌, ◌||◌, true, Some, List, [], ◌∷◌, ◌++◌, length, get_or, slice_get, refl, ap, sym, ◌∙◌, arith, append-nil, length-append}, lemmas.{List.{append_assoc, Elements.All-push, Folds.list_any-append, get_or_append_left}, Option.{get_or_from_slice_get, slice_get-get_or, slice_get_within}}, Math.Seq.get_or-append_seam}
 use Rattle.tc_rules.specs.Prelude.{Verdict, level_of, Entry, Case, past_of}
 use Rattle.tc_step.specs.Prelude.{ScriptView}
@@ -37,12 +38,7 @@ pub met_self : (m : Met) → IsMetFurther m m
 met_self m = record { scripts = refl; limit = refl; states = longer_self m.states.items; whole = λ h. h }
 
 pub met_then : (a b c : Met) → IsMetFurther a b → IsMetFurther b c → IsMetFurther a c
-met_then a b c h k = record {
-  scripts = k.scripts ∙ h.scripts;
-  limit = k.limit ∙ h.limit;
-  states = longer_then a.states.items b.states.items c.states.items h.states k.states;
-  whole = λ w. h.whole (k.whole w);
-}
+met_then a b c h k = grind (arith, common_steps)
 
 seen_further : (a b : Met) (r : List Entry) → IsMetFurther a b → IsSeen a r → IsSeen b r
 seen_further a b r h seen = λ w. let s = seen (h.whole w) in (s.0, s.1, get_longer a.states.items b.states.items s.0 s.1 h.states s.2, s.3)

@@ -1,10 +1,11 @@
 -- A history that represents another still does after one more turn of either.
-use Rattle.std.proofs.{Common.{ℕ, ◌≡◌, ◌==◌, ◌⊎◌, not, Bool, true, false, Option, Some, None, MatchOption, List, ◌∷◌, length, refl, ap, sym, subst, ◌∙◌, arith, ◌≤◌, ⊎_elim, inl, inr, ◌<◌}, lemmas.Bool.Decides.nat_tests}
-use Rattle.tc_rules.{specs.{Prelude.{Verdict, worse, level_of, given, Comp, Entry, Op, Reply, is_fault, is_ok, comp_of, created, starts_run, started_on, phase, start_in, overall, gives, setting, is_active, plain_answer, halting_op, IsLegal, Phase}, Inside.Step.next_local}, proofs.Lemmas.{Deciding.{and_left, equal_if, if_same}, Going.{halted_by_entry, others_halt_nothing}, Kept.inactive, Decided.overall_more}}
+use Rattle.std.proofs.lemmas.Grind.{common_steps}
+use Rattle.std.proofs.{Common.{ℕ, ◌≡◌, ◌==◌, ◌⊎◌, not, Bool, true, false, Option, Some, None, List, ◌∷◌, length, refl, ap, sym, subst, ◌∙◌, arith, ◌≤◌, ⊎_elim, inl, inr, ◌<◌}, lemmas.Bool.Decides.nat_tests}
+use Rattle.tc_rules.{specs.{Prelude.{Verdict, worse, level_of, given, Comp, Entry, Op, Reply, is_fault, is_ok, comp_of, created, starts_run, started_on, phase, start_in, overall, gives, setting, is_active, plain_answer, halting_op, IsLegal, Phase}, Inside.Step.next_local}, proofs.Lemmas.{Deciding.{and_left, equal_if, if_same}, Going.{halted_by_entry}, Kept.inactive, Decided.overall_more}}
 use Rattle.tc_step.specs.Prelude.{ScriptView}
 use Rattle.tc_course.{specs.Prelude.{CourseState, stand, IsCourse}, proofs.Lemmas.{course_legal, stand_other, stand_comp}}
 use Rattle.tc_verdict.proofs.Lemmas.Order.{worse_right}
-use Rattle.tc_explore.{specs.Inside.Simulation.{IsAlike, is_quiet, call_at, IsWakeOf, IsBefore, IsParkedAt, IsFollowed, IsLeaving, IsEnding, IsAhead, IsFor, AreOrdered}, proofs.{Ahead.{KeepsQuiet, ahead_after, ahead_turn}, Alike.{ChangesNothing, active_alike, alike_sym, alike_unchanged, fault_alike, late_alike, met_alike, overall_grows, worse_most}, Ordered.{order_alike, order_both, order_stays}, Places.keeps_quiet}}
+use Rattle.tc_explore.{specs.Inside.Simulation.{IsAlike, is_quiet, IsWakeOf, IsFollowed, IsLeaving, IsEnding, IsAhead, IsFor, AreOrdered}, proofs.{Ahead.{KeepsQuiet, ahead_after, ahead_turn}, Alike.{ChangesNothing, active_alike, alike_sym, alike_unchanged, fault_alike, late_alike, met_alike, overall_grows, worse_most}, Ordered.{order_alike, order_both, order_stays}, Places.keeps_quiet}}
 
 -- ---- entries that change nothing
 
@@ -35,20 +36,10 @@ starts_in_none e (Op.Start d run args) c h = absurd cc
 starts_in_none e _ c h = if_same (is_ok e.reply) None
 
 pub unchanged_passive : (past : List Entry) (e : Entry) → is_passive e.op ≡ true → is_fault e.reply ≡ false → ChangesNothing past e
-unchanged_passive past e passive plain = record {
-  made = made_never e.op e.reply passive;
-  no_run = λ b. rw (starts_none e.op b passive) (if_same (is_ok e.reply) None);
-  no_start = λ c. starts_in_none e e.op c passive;
-  no_halt = λ c. others_halt_nothing _ e c (rw (passive_never_halts e.op passive, plain) refl);
-}
+unchanged_passive past e passive plain = grind (arith, common_steps)
 
 pub unchanged_ended : (past : List Entry) (e : Entry) → e.reply ≡ Reply.Ended → ChangesNothing past e
-unchanged_ended past e r = record {
-  made = rw r (made_by_ended e.op);
-  no_run = λ b. rw r refl;
-  no_start = λ c. rw r refl;
-  no_halt = λ c. rw r refl;
-}
+unchanged_ended past e r = grind (arith, common_steps)
 
 pub ended_kept : (n : ℕ) (past : List Entry) (e : Entry) → IsLegal n (e ∷ past) → e.reply ≡ Reply.Ended → overall (e ∷ past) ≡ overall past
 ended_kept n past e legal r = overall_more n past e legal ∙ rw r refl
@@ -116,17 +107,7 @@ some_if past b act = by_comp (comp_of past b) refl
     by_comp None k = let off = inactive past b k in absurd cc
 
 pub followed_later : (scripts : List ScriptView) (q r : List Entry) (b : ℕ) (s t : CourseState) → KeepsQuiet (length scripts) q r → IsFollowed scripts q b s t → IsFollowed scripts r b s t
-followed_later scripts q r b s t keeps f = record { comp = f.comp; bound = f.bound; left = f.left; no_wake = f.no_wake; place = by_wake s.wake f.place }
-  where
-    by_wake : (o : Option Op) → MatchOption o (IsBefore scripts q b s t) (λ wake. IsParkedAt scripts q b s t wake) → MatchOption o (IsBefore scripts r b s t) (λ wake. IsParkedAt scripts r b s t wake)
-    by_wake None h = record { fewer = h.fewer; between = λ k l m. keeps b (call_at scripts b t t.comp k) (h.between k l m) }
-    by_wake (Some wake) h = record {
-      place = h.place;
-      one_more = h.one_more;
-      fewer = h.fewer;
-      wake_of = h.wake_of;
-      between = λ k l m. keeps b (call_at scripts b t t.comp k) (h.between k l m);
-    }
+followed_later scripts q r b s t keeps f = grind (arith, common_steps)
 
 pub quiet_alike : (n : ℕ) (q r : List Entry) → overall r ≡ overall q → IsAlike r q → KeepsQuiet n q r
 quiet_alike n q r same a b op h = record { quiet = rw (same, late_alike a op, met_alike a op) h.quiet; no_fault = fault_alike a n b op ∙ h.no_fault }

@@ -1,4 +1,5 @@
 -- Courses of which the same is known, local verdicts and waits included, are so after the next call of either.
+use Rattle.std.proofs.lemmas.Grind.{common_steps}
 use Rattle.std.{proofs.Common.{ℕ, ◌≡◌, ◌==◌, ◌≤◌, ◌⊎◌, inl, inr, not, if◌then◌else◌, Bool, true, false, Option, Some, None, List, [], ◌∷◌, length, refl, ap, sym, subst, ◌∙◌, arith}, specs.List.list_all}
 use Rattle.tc_rules.{specs.{Prelude.{Run, Verdict, Comp, Entry, Op, Phase, Fault, Reply, comps, comp_of, created, started_on, first_some, add_new, ends_case, ends_pass, is_over, phase, local_if_any, overall, gives, awaited, parks, waiting, waits_in_vain, is_still, is_stuck, fault, answer, plain_answer, wake_reply, local_reply, is_active, is_run_of, IsLegal}, declared.awaited.Awaited.Awaited}, proofs.Lemmas.{Deciding.{and_left, equal_if, self_equal}, Going.{halted_by_entry, last_on_it}}}
 use Rattle.tc_step.specs.Prelude.{ScriptView}
@@ -74,11 +75,7 @@ AreReplies op r s = (r ≡ s) ⊎ ((is_question op ≡ true) × (x : Bool) × (y
 
 module _ (scripts : List ScriptView) (q p : List Entry) (some : 1 ≤ length scripts) (cq : IsCourse scripts q) (t : IsTwin q p) where
   local_reply_twin : (b : ℕ) → local_reply q (comp_of q b) ≡ local_reply p (comp_of p b)
-  local_reply_twin b = by_comp (comp_of q b) ∙ ap (local_reply p) (t.alike.comp_same b)
-    where
-      by_comp : (o : Option Comp) → local_reply q o ≡ local_reply p o
-      by_comp None = refl
-      by_comp (Some c) = ap Reply.Local (t.locals c.0)
+  local_reply_twin b = grind (arith, common_steps)
 
   wake_twin : (b : ℕ) (a : Awaited) → wake_reply q b a ≡ wake_reply p b a
   wake_twin b a = rw (holds_alike t.alike a, stuck_twin scripts q p some cq t) refl
