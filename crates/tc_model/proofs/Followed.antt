@@ -17,7 +17,7 @@ first_of_more (p ∷ ps) qs holds r (inr later) = inr (later.0, first_of_more ps
 
 -- ---- the lines
 
--- the case is at the entries of the block's first lines, so many, and these have no reason
+-- the case is at the entries of that many of the block's first lines, and these have no reason
 pub record Follows (b : Block) (i : ℕ) (t : Case) (w : Ways) : Type 0 where
   pub behaviours : b.header.behaviours ≡ t.behaviours
   pub entries : past_of t ≡ reverse (entries_of (take i b.lines))

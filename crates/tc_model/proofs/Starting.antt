@@ -1,4 +1,4 @@
--- Who started each run, and what the run that an entry starts is given.
+-- The run that started each run, and what the run that an entry starts is given.
 use Rattle.std.{proofs.{Common.{ℕ, zero, suc, ◌≡◌, ◌≢◌, ◌==◌, ◌<◌, if◌then◌else◌, Bool, true, false, Option, Some, None, All, List, [], ◌∷◌, get_or, length, map, refl, ap, ◌∙◌, arith, set, get_or-set_other, get_or-set_same}, lemmas.{Bool.Decides.nat_tests, List.{Elements.All-get_or, length-map, map-set}}}, specs.{Global.Vec}}
 use Rattle.tc_rules.{specs.Prelude.{Comp, Op, Run, start}, proofs.Lemmas.Deciding.{equal_if}}
 use Rattle.tc_model.specs.{Inside.{AreWays, IsGivenOnly, IsStart, given_in}, declared.given.{Start.Start, Ways.Ways}}

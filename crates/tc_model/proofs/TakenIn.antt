@@ -4,7 +4,7 @@ use Rattle.std.proofs.lemmas.List.Elements.{All-cons, All-head, All-nil, All-tai
 use Rattle.std.specs.{Global.Vec, List.{All, filter, list_any}}
 use Rattle.tc_entry.specs.declared.limits.TheConstants.{ARGUMENTS}
 use Rattle.tc_rules.specs.Prelude.{Comp, Entry, Run, names}
-use Rattle.tc_model.specs.{Inside.{AreAllGiven, AreLacks, AreStartedWith, AreStarts, AreWays, AreWithin, IsStart, IsTaken, given_in, is_given_many, some_lack}, Naming.{given, is_run_in, lacking, starters, starts}, Reasons.some_lacking, declared.{given.{Lack.Lack, Start.Start, Starter.Starter, Ways.Ways}, reason.Reason.Reason}}
+use Rattle.tc_model.specs.{Inside.{AreAllGiven, AreLacks, AreStartedWith, AreStarts, AreWays, AreWithin, IsStart, IsTaken, given_in, is_given_many, some_lack}, Naming.{given_to, is_run_in, lacking, starters, starts}, Reasons.some_lacking, declared.{given.{Lack.Lack, Start.Start, Starter.Starter, Ways.Ways}, reason.Reason.Reason}}
 
 -- ---- runs that lack a component are runs of the case
 
@@ -93,23 +93,23 @@ ways_after n past e lacks old new before mid was begin same is all starting with
       given = λ b within.
           let in_old : b < length before = omega arith in
           let in_mid : b < length mid = omega arith in
-          let here : given_in before b ≡ given past b = rw begin (was.given b within) in
+          let here : given_in before b ≡ given_to past b = rw begin (was.given b within) in
           with.each b in_mid ∙ rw (all.each b in_old, lacked_same past e b lacks is, here) refl;
     }
 
 -- whether a run that lacks a component is given too much
 over_same : (n : ℕ) (past : List Entry) (e : Entry) (lacks : List Lack) (w : Ways) → AreWithin n lacks → AreLacks past e lacks → AreWays n (e ∷ past) w →
-    some_lack (λ c s. is_given_many w.given.items s.run.0) lacks ≡ some_lacking past e (λ c s. nat_lt ARGUMENTS (length (given (e ∷ past) s.run.0)))
+    some_lack (λ c s. is_given_many w.given.items s.run.0) lacks ≡ some_lacking past e (λ c s. nat_lt ARGUMENTS (length (given_to (e ∷ past) s.run.0)))
 over_same n past e lacks w within is ways =
     list_any_agree _ _ lacks
     (All-weaker (λ (l : Lack). All (λ s. s.run.0 < n) l.runs.items)
     (λ (l : Lack). list_any (λ (s : Starter). is_given_many w.given.items s.run.0) l.runs.items
-    ≡ list_any (λ (s : Starter). nat_lt ARGUMENTS (length (given (e ∷ past) s.run.0))) l.runs.items)
+    ≡ list_any (λ (s : Starter). nat_lt ARGUMENTS (length (given_to (e ∷ past) s.run.0))) l.runs.items)
     (λ l runs. list_any_agree _ _ l.runs.items
-    (All-weaker (λ (s : Starter). s.run.0 < n) (λ (s : Starter). is_given_many w.given.items s.run.0 ≡ nat_lt ARGUMENTS (length (given (e ∷ past) s.run.0)))
+    (All-weaker (λ (s : Starter). s.run.0 < n) (λ (s : Starter). is_given_many w.given.items s.run.0 ≡ nat_lt ARGUMENTS (length (given_to (e ∷ past) s.run.0)))
     (λ s less. ap (λ cs. nat_lt ARGUMENTS (length cs)) (ways.given s.run.0 less)) l.runs.items runs))
     lacks within)
-    ∙ some_same (λ c s. nat_lt ARGUMENTS (length (given (e ∷ past) s.run.0))) past e lacks is
+    ∙ some_same (λ c s. nat_lt ARGUMENTS (length (given_to (e ∷ past) s.run.0))) past e lacks is
 
 -- the names are a reason if a component is too new
 pub refused_new : (n : ℕ) (past : List Entry) (e : Entry) (lacks : List Lack) (w : Ways) → AreLacks past e lacks →

@@ -4,7 +4,7 @@ use Rattle.tc_entry.specs.declared.limits.TheConstants.{ARGUMENTS}
 use Rattle.tc_rules.specs.Prelude.{Case, Comp, Entry, Op, Run, Verdict, answer, is_parked, is_wake, names, past_of, start}
 use Rattle.tc_course.specs.Prelude.{stand}
 use Rattle.tc_reader.specs.Prelude.{CampaignView}
-use Rattle.tc_model.specs.{Models.{IsModel, written}, Naming.{add_each, add_one, given, is_run_in, lacking, starters, starts}, Reasons.{CanCall, EndHas, EntryHas, IsFirstOf, line_reasons}, declared.{given.{Lack.Lack, Start.Start, Starter.Starter, Ways.Ways}, models.Attempt.Attempt, reason.Reason.Reason}}
+use Rattle.tc_model.specs.{Models.{IsModel, written}, Naming.{add_each, add_one, given_to, is_run_in, lacking, starters, starts}, Reasons.{CanCall, EndHas, EntryHas, IsFirstOf, line_reasons}, declared.{given.{Lack.Lack, Start.Start, Starter.Starter, Ways.Ways}, models.Attempt.Attempt, reason.Reason.Reason}}
 
 -- the test cases are those that are left, after the block's model if the block is not refused
 abbrev pub TakesModel : Attempt → CampaignView → CampaignView → Type 0
@@ -38,7 +38,7 @@ is_given_many all b = nat_lt ARGUMENTS (length (given_in all b))
 pub record AreWays (n : ℕ) (past : List Entry) (w : Ways) : Type 0 where
   pub starts : AreStarts n past w.starts.items
   pub as_many : length w.given.items ≡ n
-  pub given : (b : ℕ) → b < n → given_in w.given.items b ≡ given past b
+  pub given : (b : ℕ) → b < n → given_in w.given.items b ≡ given_to past b
 
 -- the components that the entry names, each with the runs that lack it
 pub record AreLacks (past : List Entry) (e : Entry) (all : List Lack) : Type 0 where

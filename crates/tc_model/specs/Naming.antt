@@ -37,8 +37,8 @@ add_each [] cs = cs
 add_each (d ∷ ds) cs = add_each ds (add_one d cs)
 
 -- what run b is given: its arguments, and then each component that it lacks when it, or a run below it, names it
-abbrev pub given : List Entry → ℕ → List ℕ
-given [] b = []
-given (e ∷ past) b =
+abbrev pub given_to : List Entry → ℕ → List ℕ
+given_to [] b = []
+given_to (e ∷ past) b =
     if starts past e b then map (λ c. c.0) (option_map_or (λ s. s.2) (start e.op) [])
-    else add_each (filter (λ c. is_run_in (lacking past e.caller.0 c) b) (map (λ c. c.0) (names e.op))) (given past b)
+    else add_each (filter (λ c. is_run_in (lacking past e.caller.0 c) b) (map (λ c. c.0) (names e.op))) (given_to past b)

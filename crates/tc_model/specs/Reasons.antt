@@ -5,7 +5,7 @@ use Rattle.tc_rules.specs.Prelude.{Entry, Verdict, answer, is_finish, is_parked,
 use Rattle.tc_step.specs.declared.limits.TheConstants.{STEPS}
 use Rattle.tc_course.specs.Prelude.{stand, turn}
 use Rattle.tc_blocks.specs.{Prelude.entries_of, declared.{block.Block.Block, line.Line.Line}}
-use Rattle.tc_model.specs.{Naming.{given, lacking}, declared.{given.Starter.Starter, reason.Reason.Reason, reason.Refusal.Refusal}}
+use Rattle.tc_model.specs.{Naming.{given_to, lacking}, declared.{given.Starter.Starter, reason.Reason.Reason, reason.Refusal.Refusal}}
 
 -- A behaviour of a script can call this after these entries, with this reply: its run is one of the n, was started, and its pass has not
 -- ended. What is due is no wake, or it is this call, which is not parked again. A start names one of the n, and gives the main
@@ -27,7 +27,7 @@ EntryHas n past e Reason.NotLegal = e.reply ≢ answer n past e.caller.0 e.op
 EntryHas n past e Reason.NotCalled = CanCall n past e → ⊥
 EntryHas n past e Reason.ManySteps = ((is_wake e.op || is_finish e.op) ≡ false) × (STEPS ≤ (stand past e.caller.0).called)
 EntryHas n past e Reason.NotGiven = some_lacking past e (λ c s. nat_le s.there c) ≡ true
-EntryHas n past e Reason.ManyArguments = some_lacking past e (λ c s. nat_lt ARGUMENTS (length (given (e ∷ past) s.run.0))) ≡ true
+EntryHas n past e Reason.ManyArguments = some_lacking past e (λ c s. nat_lt ARGUMENTS (length (given_to (e ∷ past) s.run.0))) ≡ true
 EntryHas n past e _ = ⊥
 
 -- no script ends after these entries with this verdict, for this reason
