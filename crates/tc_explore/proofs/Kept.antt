@@ -1,6 +1,7 @@
 -- The states that a search keeps, and how many calls it counts.
 use Rattle.std.proofs.lemmas.Grind.{common_steps}
-use Rattle.std.{proofs.{Common.{ℕ, ◌≡◌, ◌<◌, List, [], length, get_or, replicate, set, refl, ap, sym, ◌∙◌, arith, ◌+◌, ◌≤◌, inl, inr, max, nat_eq, All, ◌∷◌, ◌++◌, map, reverse, rules, nat_cmp, subst, append-nil, ⊎_elim, Bool, true, false, Result, Ok, Err, OnOk}, lemmas.{List.{Elements.{All-map, All-nil, All-push, All-same, All-weaker}, get_or-map, get_or-set_other, get_or-set_same, length-map, length-set}, Bool.{cases_eq, cases_lt}, Option.slice_get-get_or}}, specs.{Cmp.Lexicographic.pointwise, List.IsDistinct, Ordering.ord_max}}
+use Rattle.std.proofs.lemmas.Grind.{common_steps}
+use Rattle.std.{proofs.{Common.{ℕ, ◌≡◌, ◌<◌, List, [], length, get_or, replicate, set, refl, ap, sym, ◌∙◌, arith, ◌+◌, ◌≤◌, inl, inr, max, nat_eq, All, ◌∷◌, ◌++◌, map, reverse, rules, nat_cmp, subst, append-nil, ⊎_elim, Bool, true, false, Result, Ok, Err, OnOk}, lemmas.{List.{Elements.{All-map, All-nil, All-push, All-same, All-weaker}, get_or-map, get_or-set_other, get_or-set_same, length-map, length-set}, Bool.{cases_eq}, Option.slice_get-get_or}}, specs.{Cmp.Lexicographic.pointwise, List.IsDistinct, Ordering.ord_max}}
 use Rattle.tc_entry.specs.declared.limits.TheConstants.{BEHAVIOURS}
 use Rattle.tc_step.specs.Prelude.{ScriptView}
 use Rattle.tc_rules.specs.Prelude.{Case, past_of, Entry}
@@ -36,8 +37,7 @@ covers_more before after past more covers b near = grind (arith, common_steps)
 
 -- nor any witness
 pub covered_more : (before after : List ℕ) (found : List Witness) → IsNoLess before after → AreCovered before found → AreCovered after found
-covered_more before after found more covered =
-    All-weaker (λ w. Covers before (reverse w.history)) (λ w. Covers after (reverse w.history)) (λ w. covers_more before after (reverse w.history) more) found covered
+covered_more before after found more covered = grind (arith, common_steps)
 
 pub no_less_then : (a b c : List ℕ) → IsNoLess a b → IsNoLess b c → IsNoLess a c
 no_less_then a b c h k = record { as_many = k.as_many ∙ h.as_many; each = λ n near. omega (arith, h.each n near, k.each n (omega (arith, h.as_many, near))) }
@@ -50,8 +50,7 @@ counted_none scripts reached past are = record { reached = are; more = no_less_s
 
 -- the greater of two numbers is one of them
 max_by : (P : ℕ → Type 0) (m n : ℕ) → P m → P n → P (max m n)
-max_by P m n one other =
-    ⊎_elim (λ (less : m < n). let is : n ≡ max m n = omega (arith, less) in subst P is other) (λ (more : n ≤ m). let is : m ≡ max m n = omega (arith, more) in subst P is one) (cases_lt m n)
+max_by P m n one other = grind (arith, common_steps)
 
 -- one run more
 pub counted_more : (scripts : List ScriptView) (before reached : List ℕ) (t : Case) (n k : ℕ) → IsOn scripts t → n < length reached → k ≡ carried_on (past_of t) n →

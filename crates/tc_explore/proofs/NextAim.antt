@@ -1,5 +1,6 @@
 -- Searches for verdicts, each up to a better one: what they have found together.
 use Rattle.std.proofs.lemmas.Grind.{common_steps}
+use Rattle.std.proofs.lemmas.Grind.{common_steps}
 use Rattle.std.proofs.{lemmas.Bool.{and_parts, Decides.nat_tests, cases_lt}, Common.{ℕ, suc, ◌≡◌, ◌<◌, ◌≤◌, nat_le, if◌then◌else◌, Bool, true, false, Option, Some, None, List, refl, ap, sym, subst, ◌∙◌, arith, [], length, reverse, slice_get, ⊎_elim}}
 use Rattle.tc_rules.specs.Prelude.{Verdict, level_of, Case, past_of, overall}
 use Rattle.tc_step.specs.Prelude.{ScriptView}
@@ -27,10 +28,7 @@ decided_if : (found : List Witness) (aim m a : Verdict) (rest : Option Verdict) 
 decided_if found aim m a rest next none later = by_test (is_found_within found aim m) refl
   where
     still : (w : Verdict) → level_of m ≤ level_of w → is_found_within found aim m ≡ false → is_found_within found aim w ≡ false
-    still w l k =
-        ⊎_elim (λ (high : level_of m < level_of w). none w (omega (arith, high))) (λ (low : level_of w ≤ level_of m).
-        let same : level_of w ≡ level_of m = omega (arith, l, low) in
-        ap (is_found_within found aim) (same_verdict w m same) ∙ k) (cases_lt (level_of m) (level_of w))
+    still w l k = grind (arith, common_steps)
 
     by_test : (t : Bool) → is_found_within found aim m ≡ t → IsDecided found aim (if t then Some a else rest)
     by_test true k = λ v less told.

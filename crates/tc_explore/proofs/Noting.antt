@@ -1,6 +1,7 @@
 -- Witnesses of which no verdict has two. Each is a legal history.
 use Rattle.std.proofs.lemmas.Grind.{common_steps}
-use Rattle.std.{proofs.{lemmas.{Bool.{Decides.nat_tests, cases_order}, List.{Sorted.{All-permutation, list_any-IsPermutation}, Folds.list_any_at}, Map.Keys.{IsDistinct-IsPermutation, IsDistinct-from_apart, apart_from_distinct}}, Common.{ℕ, ◌≡◌, ◌==◌, ◌<◌, ◌≤◌, Bool, true, false, List, [], ◌∷◌, ◌++◌, length, reverse, get_or, ap, sym, ◌∙◌, arith, ⊎_elim}}, specs.List.{IsDistinct, Sorted.{IsNonDecreasingBy, IsPermutation}}}
+use Rattle.std.proofs.lemmas.Grind.{common_steps}
+use Rattle.std.{proofs.{lemmas.{Bool.{Decides.nat_tests, cases_order}, List.{Sorted.{All-permutation, list_any-IsPermutation}}, Map.Keys.{IsDistinct-IsPermutation, IsDistinct-from_apart, apart_from_distinct}}, Common.{ℕ, ◌≡◌, ◌==◌, ◌<◌, ◌≤◌, Bool, true, false, List, [], ◌∷◌, ◌++◌, length, reverse, get_or, ap, sym, ◌∙◌, arith, ⊎_elim}}, specs.List.{IsDistinct, Sorted.{IsNonDecreasingBy, IsPermutation}}}
 use Rattle.tc_rules.{specs.Prelude.{Verdict, level_of}, proofs.Lemmas.Deciding.{self_equal}}
 use Rattle.tc_step.specs.Prelude.{ScriptView}
 use Rattle.tc_course.{specs.{declared.witness.Witness.Witness, Prelude.{IsWitness, AllFound, is_found, AreLegal, AreWitnesses}}, proofs.Lemmas.course_legal}
@@ -8,8 +9,7 @@ use Rattle.tc_explore.{specs.{Found.{AreCovered, AreFromBest, Covers}, Inside.Se
 
 -- the verdict of one of them is found
 found_at : (found : List Witness) (i : ℕ) (d : Witness) (v : Verdict) → i < length found → (get_or found i d).verdict ≡ v → is_found found v ≡ true
-found_at found i d v near is =
-    list_any_at (λ w. level_of w.verdict == level_of v) found i d near (ap (λ u. level_of u == level_of v) is ∙ self_equal (level_of v))
+found_at found i d v near is = grind (arith, common_steps)
 
 pub some_found : (found : List Witness) (v : Verdict) → is_found found v ≡ true → 1 ≤ length found
 some_found [] v is = absurd cc

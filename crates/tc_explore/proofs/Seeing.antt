@@ -1,7 +1,8 @@
 -- What a search has seen and found stays so while its lists grow.
 use Rattle.std.proofs.lemmas.Grind.{common_steps}
-use Rattle.std.proofs.{Common.{ℕ, ◌≡◌, ◌<◌, ◌==◌, ◌||◌, true, Some, List, [], ◌∷◌, ◌++◌, length, get_or, slice_get, refl, ap, sym, ◌∙◌, arith, append-nil, length-append}, lemmas.{List.{append_assoc, Elements.All-push, Folds.list_any-append, get_or_append_left}, Option.{get_or_from_slice_get, slice_get-get_or, slice_get_within}}, Math.Seq.get_or-append_seam}
-use Rattle.tc_rules.specs.Prelude.{Verdict, level_of, Entry, Case, past_of}
+use Rattle.std.proofs.lemmas.Grind.{common_steps}
+use Rattle.std.proofs.{Common.{ℕ, ◌≡◌, ◌<◌, true, Some, List, [], ◌∷◌, ◌++◌, length, get_or, slice_get, refl, ap, sym, ◌∙◌, arith, append-nil, length-append}, lemmas.{List.{append_assoc, Elements.All-push, get_or_append_left}, Option.{get_or_from_slice_get, slice_get-get_or, slice_get_within}}, Math.Seq.get_or-append_seam}
+use Rattle.tc_rules.specs.Prelude.{Verdict, Entry, Case, past_of}
 use Rattle.tc_step.specs.Prelude.{ScriptView}
 use Rattle.tc_course.specs.{declared.witness.Witness.Witness, Prelude.is_found}
 use Rattle.tc_explore.specs.{Inside.{Seen.{IsLonger, IsMetFurther, IsSeen, StandsOn}, Simulation.{IsClosedFor, IsCovered}}, declared.search.Met.Met}
@@ -44,8 +45,7 @@ seen_further : (a b : Met) (r : List Entry) → IsMetFurther a b → IsSeen a r 
 seen_further a b r h seen = λ w. let s = seen (h.whole w) in (s.0, s.1, get_longer a.states.items b.states.items s.0 s.1 h.states s.2, s.3)
 
 pub found_longer : (a b : List Witness) (v : Verdict) → IsLonger a b → is_found a v ≡ true → is_found b v ≡ true
-found_longer a b v more h =
-    ap (λ x. is_found x v) more.1 ∙ (list_any-append (λ w. level_of w.verdict == level_of v) a more.0 ∙ ap (λ t. t || is_found more.0 v) h)
+found_longer a b v more h = grind (arith, common_steps)
 
 pub covered_further : {aim : Verdict} (scripts : List ScriptView) (a b : Met) (q : List Entry) → IsMetFurther a b → IsCovered aim scripts (IsSeen a) q → IsCovered aim scripts (IsSeen b) q
 covered_further scripts a b q h cov = λ p cp f. let c = cov p cp f in (c.0, seen_further a b c.0 h c.1, c.2)
