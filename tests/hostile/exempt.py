@@ -72,6 +72,7 @@ UNTRIED: Tuple[Exempt, ...] = (
     (("filskeam_open", "filskeam_play", "filskeam_would", "filskeam_overall", "filskeam_is_over", "filskeam_history", "filskeam_close",
       "tc_table::call", "tc_table::history", "give_text", "HeldCase::is_open", "HeldCase::take", "HeldCase::put"),
      "tests/embed/memory.c makes them, and refuses each growth in turn"),
+    (("Pass::make_room",), "it has no answer if memory runs out: the calls on a pass refuse it, and compare the pass"),
     (("CaseState::comp_of", "Table::parked"), "close_case and the calls on a pass make them"),
     (("Block::name", "Sentence::bytes", "MetRuns::add_line", "explored_status", "first_names", "level", "is_found", "steps_of", "next_call", "CaseState::parked", "CaseState::active_on", "Course::known", "Course::turn",
       "Course::would", "Course::carried", "Course::is_over", "Course::components", "Course::phase_of", "Course::is_alive_type",

@@ -61,7 +61,7 @@ const LAST: [(&str, &str, &str); 5] = [
 /// Before the last call fewer than this many calls ask for a verdict: after one of them the log of the run is full.
 const ASKED: usize = 9;
 
-/// For so many calls a log needs more room than it has when it is new.
+/// For that many calls a log needs more room than a new one has.
 const ROOM: usize = 100;
 
 /// The first calls of both runs.
@@ -238,7 +238,7 @@ Pass::killed Pass::set_verdict Pass::get_verdict Pass::wait_done Pass::wait_kill
 /// Room in the log of a pass, which leaves the pass as it is whether there is the memory for it or not.
 fn make_room<R: Wait + Copy>(rt: R, trial: &mut Trial) {
     if let Some(mut opened) = Opened::new(rt, trial.alloc) {
-        trial.begin("Pass::make_room");
+        trial.begin("");
         if let Some(pass) = opened.passes.get_mut(0) {
             pass.make_room(ROOM);
         }

@@ -109,7 +109,7 @@ pub placed_met : (all : Bool) (Fits : List ScriptView → Case → Type 0) (t : 
     AreMet all (Fits before.scripts.now) before → Fits before.scripts.now t → IsPlaced all t before after → AreMet all (Fits after.scripts.now) after
 placed_met all Fits t before after keeps are fits p = grind (arith, common_steps)
 
--- no more than the limit
+-- at most the limit
 pub met_within : (all : Bool) (Fits : Case → Type 0) (met : Met) → AreMet all Fits met → length met.keys.keys ≤ met.limit
 met_within all Fits met are = omega (arith, as_many_keys (key_of all (length met.scripts.now)) met are.keyed, are.within)
 

@@ -47,7 +47,7 @@ starts_nothing _ other = refl
 
 -- ---- what a run is given in place of what it was given
 
--- what it is given now stands at its place, and nothing else has changed
+-- what it is given now is at its place, and nothing else has changed
 pub given_only : (r : ℕ) (comps : List Comp) (before : List (Vec Comp)) (v : Vec Comp) → r < length before → v.items ≡ comps → IsGivenOnly r comps before (set before r v)
 given_only r comps before v within is b less = rw (map-set (λ (x : Vec Comp). map (λ (c : Comp). c.0) x.items) before r v) (by_run (r == b) refl)
   where

@@ -81,7 +81,7 @@ list_any_agree : {X : Type 0} (p q : X → Bool) (xs : List X) → All (λ x. p 
 list_any_agree p q [] all = refl
 list_any_agree p q (x ∷ xs) all = rw (All-head (λ y. p y ≡ q y) x xs all) (ap (λ t. q x || t) (list_any_agree p q xs (All-tail (λ y. p y ≡ q y) x xs all)))
 
--- each run is given what it is to be given after one more entry
+-- each run is given what it must be given after one more entry
 pub ways_after : (n : ℕ) (past : List Entry) (e : Entry) (lacks : List Lack) (old new : Ways) (before mid : List (Vec Comp)) → AreWays n past old →
     before ≡ old.given.items → length mid ≡ length before → AreLacks past e lacks → AreAllGiven lacks before mid →
     AreStarts n (e ∷ past) new.starts.items → AreStartedWith past e mid new.given.items → AreWays n (e ∷ past) new

@@ -3,7 +3,7 @@ use Rattle.std.proofs.Common.{ℕ, ◌≤◌, append-nil, drop, length, take, �
 use Rattle.std.proofs.lemmas.List.{drop_all, take_all}
 use Rattle.tc_model.specs.{Models.{AreTried, IsTried, unread, written}, declared.models.Attempt.Attempt}
 
--- blocks one after the other, the first after so many that have a model; then as many have one as the last number says
+-- blocks one after the other, the first after that many that have a model; then as many have one as the last number says
 abbrev pub AreTriedTo : ℕ → List Attempt → ℕ → Type 0
 AreTriedTo k [] n = k ≡ n
 AreTriedTo k (a ∷ attempts) n = IsTried k a.block a.refusal × AreTriedTo (if is_some a.refusal then k else k + 1) attempts n

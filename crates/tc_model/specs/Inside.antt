@@ -49,7 +49,7 @@ pub record AreLacks (past : List Entry) (e : Entry) (all : List Lack) : Type 0 w
 abbrev pub some_lack : (ℕ → Starter → Bool) → List Lack → Bool
 some_lack test all = list_any (λ l. list_any (test l.comp.0) l.runs.items) all
 
--- each of the runs is one of so many
+-- each of the runs is one of that many
 abbrev pub AreWithin : ℕ → List Lack → Type 0
 AreWithin n all = All (λ l. All (λ s. s.run.0 < n) l.runs.items) all
 
@@ -62,7 +62,7 @@ pub record AreAllGiven (all : List Lack) (before after : List (Vec Comp)) : Type
   pub each : (b : ℕ) → b < length before →
       given_in after b ≡ add_each (map (λ l. l.comp.0) (filter (λ l. is_run_in l.runs.items b) all)) (given_in before b)
 
--- run r is given these components alone, and the others what they were given
+-- run r is given only these components, and the others what they were given
 abbrev pub IsGivenOnly : ℕ → List Comp → List (Vec Comp) → List (Vec Comp) → Type 0
 IsGivenOnly r comps before after =
     (b : ℕ) → b < length before → given_in after b ≡ (if r == b then map (λ c. c.0) comps else given_in before b)

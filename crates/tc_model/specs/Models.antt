@@ -34,20 +34,20 @@ of_block b reason = record { line = b.first_line; reason = reason }
 abbrev pub IsFollowed : Block → Type 0
 IsFollowed b = (at : ℕ) → IsFree b at
 
--- what comes of a block whose test case and behaviours a script has room for: it is refused for its first fault, or it has none, and is
--- refused at most because the script would be too long
+-- what comes of a block for whose test case and behaviours there is room: it is refused for its first fault; if it has none, at most
+-- because the script would be too long
 abbrev pub IsOutcome : Block → Option Refusal → Type 0
 IsOutcome b None = IsFollowed b
 IsOutcome b (Some r) = IsFirstFault b r ⊎ ((r ≡ of_block b Reason.LongScript) × IsFollowed b)
 
--- what comes of a block after so many that have a model
+-- what comes of a block after that many that have a model
 abbrev pub IsTried : ℕ → Block → Option Refusal → Type 0
 IsTried models b o =
     ((TEST_CASES ≤ models) × (o ≡ Some (of_block b Reason.ManyCases)))
     ⊎ ((models < TEST_CASES) × (IsBehaviours b.header.behaviours → ⊥) × (o ≡ Some (of_block b Reason.ManyBehaviours)))
     ⊎ ((models < TEST_CASES) × IsBehaviours b.header.behaviours × IsOutcome b o)
 
--- the same of blocks one after the other, the first after so many that have a model
+-- the same of blocks one after the other, the first after that many that have a model
 abbrev pub AreTried : ℕ → List Attempt → Type 0
 AreTried models [] = Unit {0}
 AreTried models (a ∷ attempts) = IsTried models a.block a.refusal × AreTried (if is_some a.refusal then models else models + 1) attempts
@@ -56,8 +56,8 @@ AreTried models (a ∷ attempts) = IsTried models a.block a.refusal × AreTried 
 abbrev pub unread : Attempt → Attempt
 unread a = record a { refusal = Some (unwrap_or a.refusal (of_block a.block Reason.NotRead)) }
 
--- Each block that has a fault is refused for its first one. All others have a model, but for those for which a script has no room; or
--- none has, because what was written is not read as their models.
+-- Each block that has a fault is refused for its first one. All others have a model, except those for which a script has no room;
+-- or none has, because what was written is not read as their models.
 abbrev pub AreAttempts : List Attempt → Type 0
 AreAttempts attempts = (tried : List Attempt) × AreTried 0 tried × ((attempts ≡ tried) ⊎ (attempts ≡ map unread tried))
 

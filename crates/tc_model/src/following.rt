@@ -71,7 +71,7 @@ fn is_due(course: &Course, entry: &Entry) -> bool
     }
 }
 
-// Whether the operation starts none but a behaviour of so many, and gives nothing to the main component's.
+// Whether the operation starts only one of that many behaviours, and gives nothing to the main component's.
 fn is_start(op: &Op, behaviours: u16) -> bool
     ensures { (result ≡ true) ↔ IsStartAmong behaviours op.now }
 {
@@ -182,7 +182,7 @@ fn follow_lines(
     Ok(end_fault(&course, block).map(|reason| Refusal { line, reason }))
 }
 
-// The runs of so many behaviours, of which nothing is known.
+// The runs of that many behaviours, of which nothing is known.
 fn unnamed_runs(alloc: Global, behaviours: u16) -> Result<Vec<ModelRun>, NoMemory> {
     let mut runs = Vec::new(alloc);
     for run in 0..behaviours {
@@ -198,7 +198,7 @@ fn unnamed_runs(alloc: Global, behaviours: u16) -> Result<Vec<ModelRun>, NoMemor
     Ok(runs)
 }
 
-// Gives the run this, and the main component in place of what no start needs.
+// Gives the run this, and the main component for each argument more.
 fn give_run(run: &mut ModelRun, given: Vec<Comp>) -> Result<(), NoMemory> {
     run.given = given;
     for _ in run.given.len()..run.arguments {

@@ -29,7 +29,7 @@ pub(crate) struct Lack {
     runs: Vec<Starter>,
 }
 
-/// Who started each run, and what each is given.
+/// The run that started each run, and what each is given.
 #[derive(Drop)]
 pub(crate) struct Ways {
     starts: Vec<Start>,
@@ -213,7 +213,7 @@ fn give_all(given: &mut [Vec<Comp>], lacks: &[Lack]) -> Result<(), NoMemory>
     Ok(())
 }
 
-// Gives the run these components, in place of what it was given.
+// Gives the run these components instead of what it was given.
 fn give_only(given: &mut [Vec<Comp>], run: Run, comps: &[Comp]) -> Result<(), NoMemory>
     requires { run.0 < length given.old }
     ensures as_many { length given.new ≡ length given.old }
@@ -226,7 +226,7 @@ fn give_only(given: &mut [Vec<Comp>], run: Run, comps: &[Comp]) -> Result<(), No
 }
 
 impl Ways {
-    /// Those of so many runs before the first entry.
+    /// Those of that many runs before the first entry.
     pub(crate) fn opening(alloc: Global, behaviours: u16) -> Result<Ways, NoMemory>
         ensures { IfOk result (AreWays behaviours []) }
     {

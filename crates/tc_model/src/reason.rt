@@ -15,9 +15,9 @@ pub enum Reason {
     ManyBehaviours,
     /// The reply is not the component table's; in the last line, the verdict.
     NotLegal,
-    /// No behaviour of a script makes the call here: its run was not started, or its pass has ended; it is no wake, and one is due; it
-    /// is a wake that is not due, or that is parked again; or it starts a run that is none of the block's, or gives the main
-    /// component's run arguments.
+    /// No behaviour of a script makes the call here. Its run was not started, or its pass has ended. It is no wake, and one is due; or it is
+    /// a wake that is not due, or that is parked again. Or it starts a run that is none of the block's, or gives the main component's run
+    /// arguments.
     NotCalled,
     /// The call is a step, and the run has made as many as a behaviour may have.
     ManySteps,

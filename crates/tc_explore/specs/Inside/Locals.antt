@@ -9,7 +9,7 @@ pub record IsLocalSearch (s : LocalSearch) : Type 0 where
   pub met : AreMet true (λ t. IsGoing s.met.scripts.now t) s.met
   pub sound : AreLocals s.met.scripts.now s.marks.found.items
 
--- it goes on: what it has met and found stays so
+-- it continues: what it has met and found stays so
 pub record IsLocalFurther (before after : LocalSearch) : Type 0 where
   pub search : IsLocalSearch after
   pub met : IsMetFurther before.met after.met

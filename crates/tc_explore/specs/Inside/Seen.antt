@@ -173,7 +173,7 @@ pub record IsSearch (s : Search) : Type 0 where
   pub found : IsNoted s.met.scripts.now s.found
   pub counted : All (λ t. Covers s.found.reached.items (past_of t)) s.met.states.items
 
--- it goes on: what it has met and found stays so
+-- it continues: what it has met and found stays so
 pub record IsFurther (before after : Search) : Type 0 where
   pub search : IsSearch after
   pub aim : after.aim ≡ before.aim
