@@ -88,7 +88,7 @@ def unread_lines() -> Iterator[str]:
 
 def own_options() -> List[str]:
     """The options that the program, and the scripts of this repository, take."""
-    found = [f"--{it}" for it in re.findall(r'OptionRow(?:::\w+)?\(\s*"([a-z-]+)"', text_of("crates/tc_command/src/command.rt"))]
+    found = [f"--{it}" for it in re.findall(r'"([a-z-]+)" => "', text_of("crates/tc_command/src/command.rt"))]
     for path in ("ttrun", "gate", "release", "bench/run.sh"):
         found += OPTION.findall(text_of(path))
     for text in (text_of(path) for folder in ("tests", "tools", "page", "bench", "clients") for path in files_below(folder, ".py")):

@@ -1,9 +1,7 @@
 -- A command that grows by one option or subcommand after the other.
-use Rattle.std.proofs.Common.{◌≡◌, ◌∙◌, ◌+◌, ◌<◌, ◌||◌, List, ap, drop, false, get_or, length, ℕ}
-use native.Mathlib.Numerals.{unary_clauses}
-use Rattle.std.proofs.Math.{Bool.or-false, Seq.drop-cons}
-use Rattle.clap.specs.{Words.{AddsArg, AddsSubcommand, App, Rule, app_of, rule_of, with_rule, with_subcommand}, declared.builder.{arg.Arg.Arg, command.Command.{Command, TheViews.out-Command}}}
-use Rattle.tc_command.specs.{Inside.{GrowsBy, app_of_subcommand, rule_of_row, with_each, with_rows}, declared.command.{OptionRow.OptionRow, Subcommand.Subcommand}}
+use Rattle.std.{proofs.{Common.{◌≡◌, ◌∙◌, ◌+◌, ◌<◌, ◌||◌, List, ap, codes, false, get_or, length, map, sym, take, ℕ}, Math.Bool.or-false, lemmas.List.Sums.{fold_more, fold_push}}, specs.{Borrow.Bor, List.fold}}
+use Rattle.clap.specs.{Words.{AddsArg, AddsSubcommand, App, Rule, Text, app_of, new_app, rule_of, with_rule, with_subcommand}, declared.builder.{arg.Arg.Arg, command.Command.{Command, TheViews.out-Command}}}
+use Rattle.tc_command.{specs.{Command.{app_of_subcommand, option_rule, with_options, with_version}, Inside.{GrowsBy, with_named}, declared.command.Subcommand.Subcommand}, proofs.Options.words_more}
 
 -- an option of this rule more
 pub grows_by_one : {old new : Command} {a : Arg} {rule : Rule} → AddsArg old a new → a.global ≡ false → rule_of a ≡ rule
@@ -14,24 +12,23 @@ grows_by_one {old} adds local is =
       local = adds.globals ∙ (ap (λ b. (out-Command old).has_globals || b) local ∙ or-false (out-Command old).has_globals);
     }
 
--- the rows that are left are the next one and those after it
-pub next_row : (rows : List OptionRow) (i : ℕ) (d : OptionRow) (app : App) → i < length rows
-    → with_rows (drop i rows) app ≡ with_rows (drop (i + 1) rows) (with_rule app (rule_of_row (get_or rows i d)))
-next_row rows i d app lt = simp unary_clauses (ap (λ left. with_rows left app) (drop-cons rows i d lt))
+-- one more of the names
+pub named_more : (names : List (Bor Text)) (i : ℕ) (d : Bor Text) (app : App) → i < length names
+    → with_named (take (i + 1) names) app ≡ with_rule (with_named (take i names) app) (option_rule (get_or names i d).now)
+named_more names i d app within =
+    ap (with_options app) (words_more names i d within) ∙ fold_push (λ a name. with_rule a (option_rule name)) app (map (λ (n : Bor Text). n.now) (take i names)) (get_or names i d).now
 
--- the subcommands that are left are the next one and those after it
-pub next_subcommand : (subs : List Subcommand) (i : ℕ) (d : Subcommand) (app : App) → i < length subs
-    → with_each (drop i subs) app ≡ with_each (drop (i + 1) subs) (with_subcommand app (app_of_subcommand (get_or subs i d)).top)
-next_subcommand subs i d app lt = simp unary_clauses (ap (λ left. with_each left app) (drop-cons subs i d lt))
+-- the program's command with the first subcommands
+abbrev pub with_each : List Subcommand → App
+with_each = fold (λ app s. with_subcommand app (app_of_subcommand s).top) (with_version (new_app (codes "ttrun")))
 
--- a subcommand of this application more
-pub grows_by_subcommand : {old sub new : Command} {app : App} → AddsSubcommand old sub new → (out-Command sub).has_globals ≡ false → app_of sub ≡ app
-    → GrowsBy (λ program. with_subcommand program app.top) old new
-grows_by_subcommand {old} adds local is =
-    record {
-      options = adds.shape local ∙ ap (λ (a : App). with_subcommand (app_of old) a.top) is;
-      local = adds.globals ∙ (ap (λ b. (out-Command old).has_globals || b) local ∙ or-false (out-Command old).has_globals);
-    }
+-- one more of the subcommands
+pub each_more : {old sub new : Command} (subs : List Subcommand) (i : ℕ) (d : Subcommand) → i < length subs → AddsSubcommand old sub new
+    → (out-Command sub).has_globals ≡ false → app_of sub ≡ app_of_subcommand (get_or subs i d) → app_of old ≡ with_each (take i subs) → app_of new ≡ with_each (take (i + 1) subs)
+each_more {old} subs i d within adds local is so_far =
+    let more = fold_more (λ app s. with_subcommand app (app_of_subcommand s).top) (with_version (new_app (codes "ttrun"))) subs i d within in
+    adds.shape local ∙ (ap (λ (a : App). with_subcommand (app_of old) a.top) is
+    ∙ (ap (λ app. with_subcommand app (app_of_subcommand (get_or subs i d)).top) so_far ∙ sym more))
 
 -- what a command of this application has grown to
 pub grown : {more : App → App} {old new : Command} {app : App} → GrowsBy more old new → app_of old ≡ app → app_of new ≡ more app

@@ -1,6 +1,6 @@
 -- The options among the words, as the matches hold them.
-use Rattle.std.{proofs.{Common.{ℕ, ◌≡◌, ◌∙◌, ◌+◌, ◌<◌, ◌++◌, ◌∷◌, refl, All, ap, get_or, length, map, subst, sym, take, Option, Some, None, List, []}, lemmas.List.{Elements.All-push, get_or-map, length-map, map-append, take_more}}, specs.{Prelude.{find, option_map, option_and_then, unwrap_or, ◌||◌, Bool, false, if◌then◌else◌, is_none, true}, Borrow.Bor, Str.bytes_eq}}
-use Rattle.clap.{specs.{Facts.Entry, Matches.{first_value, matched_of, raw_values}, Walk.{Row, Text, first_of, row_of, rows_of, texts}, declared.{parser.matches.{Found.Found, MatchedArg.MatchedArg}, error.kind.ErrorKind.TheVariants.{ArgumentConflict, MissingRequiredArgument}}}, proofs.WalkLemmas.{find_row, first_value-rows, raw_values-rows}}
+use Rattle.std.{proofs.{Common.{ℕ, ◌≡◌, ◌∙◌, ◌+◌, ◌<◌, ◌++◌, ◌∷◌, refl, All, ap, get_or, length, map, subst, sym, take, Option, Some, None, List, []}, lemmas.List.{Elements.All-push, get_or-map, length-map, map-append, take_more}}, specs.{Prelude.{find, option_map, option_and_then, unwrap_or, ◌||◌, Bool, false, if◌then◌else◌, is_none, true}, Borrow.Bor, List.list_any, Str.bytes_eq}}
+use Rattle.clap.{specs.{Facts.Entry, Matches.{first_value, matched_of, raw_values}, Walk.{Row, Text, first_of, row_of, rows_of, texts}, declared.{parser.matches.{Found.Found, MatchedArg.MatchedArg}, error.kind.ErrorKind.TheVariants.{ArgumentConflict, MissingRequiredArgument}}}, proofs.WalkLemmas.{find_row, first_value-rows, list_any-map, raw_values-rows}}
 use Rattle.tc_entry.specs.Prelude.{IsPattern}
 use Rattle.tc_command.specs.{Asked.{lacks_script, option_faults, option_values, report_form_of}, declared.command.Subcommand.Subcommand}
 
@@ -26,6 +26,10 @@ no_words f id is = ap (λ o. unwrap_or o []) (sym is ∙ raw_values-rows f id)
 pub first_word : (f : Found) (id : Text) → first_value f id ≡ first_of id (rows_of f)
 first_word f id = first_value-rows f id
 
+-- whether a test passes for what is made of one of the elements
+pub any_made : {X Y : Type 0} (p : Y → Bool) (f : X → Y) (xs : List X) {b : Bool} → b ≡ list_any (λ x. p (f x)) xs → b ≡ list_any p (map f xs)
+any_made p f xs is = is ∙ list_any-map p f xs
+
 -- one more word
 pub words_more : (words : List (Bor Text)) (i : ℕ) (d : Bor Text) → i < length words
     → map (λ w. w.now) (take (i + 1) words) ≡ map (λ w. w.now) (take i words) ++ (get_or words i d).now ∷ []
@@ -44,7 +48,7 @@ name_at words i d within all = subst IsPattern (get_or-map (λ (w : Bor Text). w
 
 -- a report with no fault of its options has a form
 pub has_form : (s : Subcommand) (rows : List Row) → s ≡ Subcommand.Report → option_faults (s, rows) ≡ [] → is_none (report_form_of rows) ≡ false
-has_form s rows is none = go _ (lacks_script Subcommand.Report rows) (is_none (report_form_of rows)) _ (subst (λ t. option_faults (t, rows) ≡ []) is none)
+has_form s rows is none = go _ (lacks_script rows) (is_none (report_form_of rows)) _ (subst (λ t. option_faults (t, rows) ≡ []) is none)
   where
     go : (apart a b d : Bool) → (if apart then ArgumentConflict ∷ [] else (if a || (b || d) then MissingRequiredArgument ∷ [] else [])) ≡ [] → b ≡ false
     go true a b d h = absurd cc

@@ -1,37 +1,48 @@
 -- What the words are read as, by what the parse answered and what the options ask for.
-use Rattle.std.{proofs.Common.{◌≡◌, ◌∙◌, true, sym, ap, subst, Bool, List, [], Result, Ok, Err, inl, inr}, specs.Result.IsErrAnd}
-use Rattle.clap.{specs.{Kinds.{Kinds, or_else}, Words.{App, HasKind, Row, Text, fault_of, is_simple_and_free, kind_of}, declared.error.Error.Error}, proofs.FaultLemmas.{first_fails, past}}
-use Rattle.tc_command.specs.{Asked.{Asks, HasBadWord, IsReadAs, option_faults}, Inside.{IsRefusedBy, IsTaken, IsToldBy}, declared.{command.Subcommand.Subcommand, read.Refused.Refused, refusal.Refusal.Refusal, task.Task.Task}}
+use Rattle.std.{proofs.Common.{◌≡◌, ◌∙◌, ◌⊎◌, refl, true, sym, ap, subst, Bool, List, [], Result, Ok, Err, Option, None, Some, Box, Global}, specs.{Prelude.{find, option_map, unwrap_or}, Box.box_value, Result.IsErrAnd, Str.bytes_eq}}
+use Rattle.clap.{specs.{Kinds.{Kinds}, Words.{App, HasKind, HasMatchesOf, IsAmong, Row, Text, fault_of, found_of, is_simple, is_simple_and_free, kind_of, matches_of, rows_of, subcommand_name_of, subcommand_of, subcommand_rows, subcommand_rows_of}, declared.{error.{Error.Error, kind.ErrorKind.TheVariants.OutOfMemory}, parser.matches.{ArgMatches.{ArgMatches, TheViews.{out-ArgMatches, out-SubCommand}}, SubCommand.SubCommand}}}, proofs.FaultLemmas.{first_fails}}
+use Rattle.tc_command.specs.{Asked.{IsReadAs, command_line_of}, Command.{cases_app, offer_of, subcommands, ttrun}, declared.{command.Subcommand.Subcommand, read.Refused.Refused, task.Task.Task}}
 
 -- what a command reads is what the application that it is reads
-pub carried : {T : Type 0} {x : T} (read : App → T) (fits : App → Bool) {command app : App} → command ≡ app → fits app ≡ true
+carried : {T : Type 0} {x : T} (read : App → T) (fits : App → Bool) {command app : App} → command ≡ app → fits app ≡ true
     → (fits command ≡ true → x ≡ read command) → x ≡ read app
 carried read fits is fit same = same (ap fits is ∙ fit) ∙ ap read is
 
--- what the parse refuses is refused, for the same reason
-pub parse_refuses : (at : Bool) {command app : App} (words : List Text) (line : Subcommand × List Row) (e : Error) → command ≡ app → is_simple_and_free app ≡ true
-    → (is_simple_and_free command ≡ true → HasKind (fault_of command words) e) → IsReadAs at (fault_of app words) line (Err (Refused.Line e))
-parse_refuses at {command} {app} words line e is fit kinds =
-    first_fails (fault_of app words) _ (kind_of e) (subst (λ a. HasKind (fault_of a words) e) is (kinds (ap is_simple_and_free is ∙ fit)))
+-- what the parse takes has no fault
+pub no_fault : {command app : App} (words : List Text) → command ≡ app → is_simple_and_free app ≡ true → (is_simple_and_free command ≡ true → fault_of command words ≡ [])
+    → [] ≡ fault_of app words
+no_fault words is fit none = carried (λ app. fault_of app words) is_simple_and_free is fit (λ f. sym (none f))
 
-module _ (at : Bool) (found : Kinds) (line given : Subcommand × List Row) (none : [] ≡ found) (line_is : line ≡ given) where
-  -- what the parse takes is refused for its options
-  faults_are : or_else found (option_faults given) ≡ option_faults line
-  faults_are = past found _ (sym none) ∙ sym (ap option_faults line_is)
+-- the subcommand and its options are those of the words
+pub line_found : {command : App} (words : List Text) (m : ArgMatches) → command ≡ ttrun → HasMatchesOf command words m
+    → command_line_of (subcommand_rows_of m) ≡ command_line_of (subcommand_of ttrun words)
+line_found words m is found = ap command_line_of (carried (λ app. subcommand_of app words) is_simple is refl (λ f. (found f).1))
 
-  -- what its options ask for is read
-  pub task_read : (task : Task) → IsTaken at line task → IsReadAs at found given (Ok task)
-  task_read task taken = (faults_are ∙ taken.0, subst (λ line. Asks at line task) line_is taken.1)
+-- the subcommand of the matches and its options, by their parts
+pub line_named : (m : ArgMatches) (s : Subcommand) (name : Text) (rows : List Row) → s ≡ unwrap_or (find (λ s. bytes_eq (offer_of s).0 name) subcommands) Subcommand.Run → Some name ≡ subcommand_name_of m
+    → Some rows ≡ option_map (λ p. p.1) (subcommand_rows_of m) → (s, rows) ≡ command_line_of (subcommand_rows_of m)
+line_named m s name rows is = go (out-ArgMatches m).subcommand
+  where
+    go : (sub : Option (Box SubCommand Global)) → Some name ≡ option_map (λ b. (out-SubCommand (box_value b)).name.now) sub
+        → Some rows ≡ option_map (λ p. p.1) (subcommand_rows sub) → (s, rows) ≡ command_line_of (subcommand_rows sub)
+    go None named of = cc
+    go (Some b) named of = cc
 
-  -- what is known of its options is why the words are refused
-  pub refusal_read : (refusal : Refusal) (refused : Refused) → IsRefusedBy line refusal → IsToldBy refusal refused → IsReadAs at found given (Err refused)
-  refusal_read (Refusal.Conflict first second) (Refused.Line e) why told = subst (λ k. HasKind k e) (sym (faults_are ∙ why)) (inr (inl told))
-  refusal_read (Refusal.Conflict first second) (Refused.Word f) why told = absurd told
-  refusal_read (Refusal.Lack lack) (Refused.Line e) why told = subst (λ k. HasKind k e) (sym (faults_are ∙ why)) (inr (inl told))
-  refusal_read (Refusal.Lack lack) (Refused.Word f) why told = absurd told
-  refusal_read (Refusal.Word fault) (Refused.Line e) why told = absurd told
-  refusal_read (Refusal.Word fault) (Refused.Word f) why told = (faults_are ∙ why.0, subst (λ g. HasBadWord given.1 g) (sym told) (subst (λ l. HasBadWord l.1 fault) line_is why.1))
-  refusal_read Refusal.NoMemory refused why told = absurd told
+-- the options of a program with test cases of its own are those of the words
+pub rows_found : {command : App} (words : List Text) (m : ArgMatches) → command ≡ cases_app → HasMatchesOf command words m
+    → ◌≡◌ {A = Subcommand × List Row} (Subcommand.Run, rows_of (found_of m)) (Subcommand.Run, matches_of cases_app words)
+rows_found words m is found = ap (λ rows. (Subcommand.Run, rows)) (carried (λ app. matches_of app words) is_simple is refl (λ f. (found f).0))
+
+-- what the parse refuses is refused, by an error of the same kind
+pub parse_refuses : (at : Bool) {command app : App} (words : List Text) (line : Subcommand × List Row) (e told : Error) → command ≡ app → is_simple_and_free app ≡ true
+    → (is_simple_and_free command ≡ true → HasKind (fault_of command words) e) → kind_of told ≡ kind_of e → IsReadAs at (fault_of app words) line (Err (Refused.Line told))
+parse_refuses at {command} {app} words line e told is fit kinds same =
+    first_fails (fault_of app words) _ (kind_of told) (subst (λ k. (k ≡ OutOfMemory) ⊎ IsAmong k (fault_of app words)) (sym same) (subst (λ a. HasKind (fault_of a words) e) is (kinds (ap is_simple_and_free is ∙ fit))))
+
+-- what has no fault is read as its options are
+pub read_on : (at : Bool) (found : Kinds) (line given : Subcommand × List Row) (r : Result Task Refused) → [] ≡ found → line ≡ given
+    → IsReadAs at [] line r → IsReadAs at found given r
+read_on at found line given r none is reads = subst (λ l. IsReadAs at found l r) is (subst (λ f. IsReadAs at f line r) none reads)
 
 -- an answer that is this error is read as it is
 pub fails_so : (at : Bool) (found : Kinds) (line : Subcommand × List Row) (r : Result Task Refused) (e : Error) → IsErrAnd r (λ x. x ≡ Refused.Line e)

@@ -2,7 +2,7 @@
 use Rattle.std.specs.{Prelude.{◌≡◌, Bool, true, false, ◌&&◌, ◌||◌, not, List, [], ◌∷◌, Option, Some, None, Result, Ok, Err, All, IfSome, codes, find, if◌then◌else◌, is_none, map, option_and_then, unwrap_or}, List.list_any, Str.bytes_eq}
 use Rattle.clap.specs.{Words.{HasKind, Row, Text, all_of, first_of, fault_of, matches_of, subcommand_of}, Kinds.{Kinds, or_else}, declared.{error.kind.ErrorKind.TheVariants.{ArgumentConflict, MissingRequiredArgument}, parser.matches.ValueSource.{ValueSource, TheVariants.CommandLine}}}
 use Rattle.tc_entry.specs.Prelude.{IsName, IsPattern}
-use Rattle.tc_command.specs.{Command.{IsGood, IsProgressOf, IsRuleOf, IsShardOf, IsStatesOf, cases_app, ttrun}, declared.{command.Subcommand.Subcommand, read.{Refused.Refused, TheConstants.{APART, HISTORY_NEEDS, SCRIPT_NEEDS}}, task.{Choice.Choice, ExploreOptions.ExploreOptions, Form.Form, ReportForm.ReportForm, RunOptions.RunOptions, Task.Task}, word.WordFault.WordFault}}
+use Rattle.tc_command.specs.{Command.{IsGood, IsProgressOf, IsRuleOf, IsShardOf, IsStatesOf, cases_app, offer_of, subcommands, ttrun}, declared.{command.Subcommand.Subcommand, read.{Refused.Refused, TheConstants.{APART, HISTORY_NEEDS, SCRIPT_NEEDS}}, task.{Choice.Choice, ExploreOptions.ExploreOptions, Form.Form, ReportForm.ReportForm, RunOptions.RunOptions, Task.Task}, word.WordFault.WordFault}}
 
 -- the value comes from the arguments, and is no default
 abbrev pub is_from_words : Option ValueSource → Bool
@@ -17,27 +17,10 @@ is_given rows option = is_from_words (option_and_then (λ r. r.source) (find (λ
 abbrev pub option_values : Text → List Row → List Text
 option_values option rows = unwrap_or (all_of option rows) []
 
--- the subcommand of this name; any other word that the command line takes is `run`
-abbrev pub subcommand_named : Text → Subcommand
-subcommand_named name =
-    if bytes_eq name (codes "check") then Subcommand.Check
-    else (if bytes_eq name (codes "replay") then Subcommand.Replay
-    else (if bytes_eq name (codes "explore") then Subcommand.Explore
-    else (if bytes_eq name (codes "report") then Subcommand.Report
-    else (if bytes_eq name (codes "model") then Subcommand.Model
-    else (if bytes_eq name (codes "serve") then Subcommand.Serve else Subcommand.Run)))))
-
--- the subcommand and its options; no subcommand is `run` without options
+-- the subcommand of the line's name, and its options; any other name is `run`, and no subcommand is `run` without options
 abbrev pub command_line_of : Option (Text × List Row) → Subcommand × List Row
 command_line_of None = (Subcommand.Run, [])
-command_line_of (Some p) = (subcommand_named p.0, p.1)
-
--- the subcommand reads histories, which may have a script before them
-abbrev pub reads_histories : Subcommand → Bool
-reads_histories Subcommand.Check = true
-reads_histories Subcommand.Report = true
-reads_histories Subcommand.Model = true
-reads_histories subcommand = false
+command_line_of (Some p) = (unwrap_or (find (λ s. bytes_eq (offer_of s).0 p.0) subcommands) Subcommand.Run, p.1)
 
 -- the form that the options of `run` ask for
 abbrev pub form_of : List Row → Form
@@ -56,29 +39,30 @@ report_form_of rows =
     else (if is_given rows (codes "html") then Some ReportForm.Html
     else (if is_given rows (codes "summary") then Some ReportForm.Summary else None))))
 
--- the first option of the pair is given, and the second is, or is not
-abbrev pub gives_pair : Bool → List Row → Text × Text → Bool
-gives_pair with rows p = is_given rows p.0 && (if with then is_given rows p.1 else not (is_given rows p.1))
+-- the option is given, and one of those that are listed with it is, or is not
+abbrev pub gives_pair : Bool → List Row → Text × List Text → Bool
+gives_pair with rows p = is_given rows p.0 && list_any (λ o. if with then is_given rows o else not (is_given rows o)) p.1
+
+-- the options of a table, each with those that are listed with it
+abbrev pub pairs_of : List (record { now : Text } × record { now : List (record { now : Text }) }) → List (Text × List Text)
+pairs_of = map (λ p. (p.0.now, map (λ o. o.now) p.1.now))
 
 -- a shard of histories is chosen, or what is on a page, and there is no script
-abbrev pub lacks_script : Subcommand → List Row → Bool
-lacks_script subcommand rows =
-    reads_histories subcommand && ((is_given rows (codes "shard") || (is_given rows (codes "only") && is_given rows (codes "html"))) && not (is_given rows (codes "script")))
+abbrev pub lacks_script : List Row → Bool
+lacks_script rows = (is_given rows (codes "shard") || (is_given rows (codes "only") && is_given rows (codes "html"))) && not (is_given rows (codes "script"))
 
--- a form is needed, and none is given
-abbrev pub lacks_form : Subcommand → List Row → Bool
-lacks_form Subcommand.Report rows = is_none (report_form_of rows)
-lacks_form subcommand rows = false
-
--- the pairs of which the first option needs the second
-abbrev pub needs : Subcommand → List (Text × Text)
-needs subcommand = map (λ p. (p.0.now, p.1.now)) (if reads_histories subcommand then HISTORY_NEEDS else SCRIPT_NEEDS)
+-- the options lack one that they need: a script, a form, or one of a table
+abbrev pub lacks_option : Subcommand → List Row → Bool
+lacks_option Subcommand.Check rows = lacks_script rows
+lacks_option Subcommand.Model rows = false
+lacks_option Subcommand.Report rows = lacks_script rows || (is_none (report_form_of rows) || list_any (gives_pair false rows) (pairs_of HISTORY_NEEDS))
+lacks_option subcommand rows = list_any (gives_pair false rows) (pairs_of SCRIPT_NEEDS)
 
 -- why options are refused: two that exclude each other, or options without one that they need; none if they are taken
 abbrev pub option_faults : Subcommand × List Row → Kinds
 option_faults line =
-    if list_any (gives_pair true line.1) (map (λ p. (p.0.now, p.1.now)) APART) then ArgumentConflict ∷ []
-    else (if lacks_script line.0 line.1 || (lacks_form line.0 line.1 || list_any (gives_pair false line.1) (needs line.0)) then MissingRequiredArgument ∷ [] else [])
+    if list_any (gives_pair true line.1) (pairs_of APART) then ArgumentConflict ∷ []
+    else (if lacks_option line.0 line.1 then MissingRequiredArgument ∷ [] else [])
 
 -- faults are explained: if that is asked for, and at a terminal unless it is declined
 abbrev pub is_explained : Bool → List Row → Bool

@@ -1,76 +1,61 @@
 -- The program's command as a command line reads it: its subcommands, their options, and the values of these.
-use Rattle.std.specs.{Prelude.{Bool, List, [], ◌∷◌, ◌++◌, Some, false, true, codes, fold, ℕ, ◌≡◌, ◌≤◌, ◌<◌, ◌+◌, ◌^◌, IsSomeAnd, MatchOption, Option, None}, Fmt.decimal}
+use Rattle.std.specs.{Prelude.{Bool, List, [], ◌∷◌, ◌++◌, Some, false, true, codes, fold, map, ℕ, ◌≡◌, ◌≤◌, ◌<◌, ◌+◌, ◌^◌, if◌then◌else◌, IsSomeAnd, MatchOption, Option, None}, Fmt.decimal, List.list_any, Str.bytes_eq}
 use Rattle.clap.specs.{Words.{App, Rule, Text, new_app, new_rule, with_rule, with_subcommand}, declared.builder.action.ArgAction.TheVariants.{Append, Set, SetTrue}}
 use Rattle.tc_entry.specs.Prelude.{IsShard, ShardView, Verdict, name_of}
-use Rattle.tc_command.specs.declared.word.WordFault.{WordFault}
+use Rattle.tc_command.specs.declared.{command.Subcommand.{Subcommand, TheVariants.{Check, Explore, Model, Replay, Report, Run, Serve}}, word.WordFault.WordFault}
 
--- an option of this name, which takes no value
-abbrev pub flag_rule : Text → Rule
-flag_rule name = record (new_rule name) { long = Some name; action = Some SetTrue }
+-- an option of this name: --only takes one value each time, --progress one or none, and the four one; any other takes none
+abbrev pub option_rule : Text → Rule
+option_rule name =
+    let flag = record (new_rule name) { long = Some name; action = Some SetTrue } in
+    let word = record flag { action = Some Set; value_names = 1 } in
+    if bytes_eq name (codes "only") then record word { action = Some Append }
+    else (if bytes_eq name (codes "progress") then record word { range = Some (record { start_inclusive = 0; end_inclusive = 1 }) }
+    else (if list_any (bytes_eq name) (map codes ("suite" ∷ "stop-on" ∷ "states" ∷ "shard" ∷ [])) then word else flag))
 
--- an option of this name, which takes one value
-abbrev pub word_rule : Text → Rule
-word_rule name = record (new_rule name) { long = Some name; action = Some Set; value_names = 1 }
+-- the command with the options of these names more, in their order
+abbrev pub with_options : App → List Text → App
+with_options = fold (λ app name. with_rule app (option_rule name))
 
--- an option of this name, which takes one value or none
-abbrev pub maybe_word_rule : Text → Rule
-maybe_word_rule name = record (word_rule name) { range = Some (record { start_inclusive = 0; end_inclusive = 1 }) }
+-- the options of each command that reads histories: their script, which of them, and whether they may be long
+abbrev pub choosing : List Text
+choosing = map codes ("script" ∷ "only" ∷ "shard" ∷ "failed" ∷ "last" ∷ "long" ∷ [])
 
--- an option of this name, which takes one value, and may be given several times
-abbrev pub words_rule : Text → Rule
-words_rule name = record (new_rule name) { long = Some name; action = Some Append; value_names = 1 }
-
--- the options of each command that reads a text whole: whether a fault of it is explained
-abbrev pub explaining : List Rule
-explaining = flag_rule (codes "explain") ∷ flag_rule (codes "no-explain") ∷ []
-
--- the options of each command that reads histories: their script, which of them, whether they may be long, and whether a fault is explained
-abbrev pub choosing : List Rule
-choosing =
-    flag_rule (codes "script") ∷ words_rule (codes "only") ∷ word_rule (codes "shard") ∷ flag_rule (codes "failed") ∷ flag_rule (codes "last")
-    ∷ flag_rule (codes "long") ∷ explaining
-
--- the options of a run of test cases: its forms, as it finishes, how it is stopped, and which test cases
-abbrev pub run_options : List Rule
+-- those of a run of test cases: its forms, as it finishes, how it is stopped, and which test cases
+abbrev pub run_options : List Text
 run_options =
-    flag_rule (codes "csv") ∷ flag_rule (codes "history") ∷ flag_rule (codes "evidence") ∷ flag_rule (codes "junit")
-    ∷ word_rule (codes "suite") ∷ flag_rule (codes "times") ∷ flag_rule (codes "live") ∷ maybe_word_rule (codes "progress")
-    ∷ word_rule (codes "stop-on") ∷ flag_rule (codes "list") ∷ words_rule (codes "only") ∷ word_rule (codes "shard") ∷ []
+    map codes ("csv" ∷ "history" ∷ "evidence" ∷ "junit" ∷ "suite" ∷ "times" ∷ "live" ∷ "progress" ∷ "stop-on" ∷ "list" ∷ "only" ∷ "shard" ∷ [])
 
--- `run` has these and those of its script: which test cases, and whether a fault is explained
-abbrev pub run : App
-run = fold with_rule (new_app (codes "run")) (run_options ++ flag_rule (codes "failed") ∷ flag_rule (codes "last") ∷ explaining)
+-- the name of a subcommand, and its options without those of explanations
+abbrev pub offer_of : Subcommand → Text × List Text
+offer_of Run = (codes "run", run_options ++ codes "failed" ∷ codes "last" ∷ [])
+offer_of Serve = (codes "serve", [])
+offer_of Explore = (codes "explore", map codes ("history" ∷ "evidence" ∷ "details" ∷ "locals" ∷ "states" ∷ "only" ∷ "shard" ∷ "failed" ∷ "last" ∷ []))
+offer_of Check = (codes "check", choosing)
+offer_of Report = (codes "report", map codes ("text" ∷ "csv" ∷ "junit" ∷ "suite" ∷ "html" ∷ "summary" ∷ []) ++ choosing)
+offer_of Model = (codes "model", map codes ("only" ∷ "failed" ∷ "last" ∷ "long" ∷ []))
+offer_of Replay = (codes "replay", [])
 
--- the options of `explore`
-abbrev pub explore : App
-explore = fold with_rule (new_app (codes "explore")) (
-    flag_rule (codes "history") ∷ flag_rule (codes "evidence") ∷ flag_rule (codes "details") ∷ flag_rule (codes "locals") ∷ word_rule (codes "states")
-    ∷ words_rule (codes "only") ∷ word_rule (codes "shard") ∷ flag_rule (codes "failed") ∷ flag_rule (codes "last") ∷ explaining)
+-- the command of a subcommand: each but `serve` has also the options that say whether a fault is explained
+abbrev pub app_of_subcommand : Subcommand → App
+app_of_subcommand Serve = new_app (codes "serve")
+app_of_subcommand s = with_options (with_options (new_app (offer_of s).0) (offer_of s).1) (codes "explain" ∷ codes "no-explain" ∷ [])
 
--- the options of `report`
-abbrev pub report : App
-report = fold with_rule (new_app (codes "report")) (
-    flag_rule (codes "text") ∷ flag_rule (codes "csv") ∷ flag_rule (codes "junit") ∷ word_rule (codes "suite") ∷ flag_rule (codes "html")
-    ∷ flag_rule (codes "summary") ∷ choosing)
-
--- the options of `model`: which histories, whether they may be long, and whether a fault is explained
-abbrev pub model : App
-model = fold with_rule (new_app (codes "model")) (words_rule (codes "only") ∷ flag_rule (codes "failed") ∷ flag_rule (codes "last") ∷ flag_rule (codes "long") ∷ explaining)
+-- the subcommands, in the order of the help
+abbrev pub subcommands : List Subcommand
+subcommands = Run ∷ Serve ∷ Explore ∷ Check ∷ Report ∷ Model ∷ Replay ∷ []
 
 -- a command that prints its version
 abbrev pub with_version : App → App
 with_version app = record app { top = record app.top { has_version = true } }
 
--- the program's command prints its version, and has these seven subcommands, of which `serve` has no option
+-- the program's command prints its version, and has these subcommands
 abbrev pub ttrun : App
-ttrun =
-    fold (λ app sub. with_subcommand app sub.top) (with_version (new_app (codes "ttrun")))
-    (run ∷ new_app (codes "serve") ∷ explore ∷ fold with_rule (new_app (codes "check")) choosing ∷ report ∷ model
-    ∷ fold with_rule (new_app (codes "replay")) explaining ∷ [])
+ttrun = fold (λ app s. with_subcommand app (app_of_subcommand s).top) (with_version (new_app (codes "ttrun"))) subcommands
 
 -- the command of a program with test cases of its own prints its version too, and has the options of their run
 abbrev pub cases_app : App
-cases_app = fold with_rule (with_version (new_app (codes "program"))) run_options
+cases_app = with_options (with_version (new_app (codes "program"))) run_options
 
 -- the value of an option names this; without a value there is nothing
 abbrev pub IsNamed : {T : Type 0} → (Text → T → Type 0) → Option Text → Option T → Type 0

@@ -1,13 +1,13 @@
 //! The arguments of a program with test cases of its own.
-ghost use Rattle.std.specs.Prelude.{◌≡◌, IfOk, map, string_bytes, true};
-ghost use Rattle.clap.specs.Words.{FailsBy, app_of, fault_of, found_of, is_simple, is_simple_and_free, matches_of, rows_of};
+ghost use Rattle.std.specs.Prelude.{◌≡◌, IfOk, map, string_bytes};
+ghost use Rattle.clap.specs.Words.{app_of};
 ghost use Rattle.tc_command.specs.{Asked.IsCasesReading, Command.cases_app};
 
 use crate::command::{RUN_OPTIONS, Subcommand, VERSION, with_options};
 use crate::read::{Refused, subcommand_task};
 use crate::refusal::told_by;
 use crate::task::Task;
-use clap::{ArgMatches, Command, Error};
+use clap::Command;
 use std::alloc::{AllocError, Global};
 
 // What its help says at its end.
@@ -21,13 +21,8 @@ abort or a refusal.";
 
 // The name of the program: the last part of the first argument.
 fn program_name(words: &[String]) -> &str {
-    let Some(path) = words.first() else {
-        return "";
-    };
-    match path.as_str().rsplit_once('/') {
-        Some((_, name)) => name,
-        None => path.as_str(),
-    }
+    let path = words.first().map_or("", |path| path.as_str());
+    path.rsplit_once('/').map_or(path, |(_, name)| name)
 }
 
 // The command of the program of this name, with the version of this library.
@@ -40,35 +35,7 @@ fn cases_command<'a>(alloc: Global, name: &str) -> Result<Command<'a>, AllocErro
         .version(VERSION)
         .after_help(CASES_HELP)
         .display_name(before_the_version.as_str())?;
-    with_options(alloc, program, &RUN_OPTIONS)
-}
-
-// What the command finds in the arguments.
-fn parsed<'a>(command: &mut Command<'a>, words: &'a [String]) -> Result<ArgMatches<'a>, Error>
-    ensures found { IfOk result (λ m. is_simple (app_of command.old) ≡ true
-        → rows_of (found_of m) ≡ matches_of (app_of command.old) (map string_bytes words.entry.now)) }
-    ensures refused { is_simple_and_free (app_of command.old) ≡ true
-        → FailsBy (fault_of (app_of command.old) (map string_bytes words.entry.now)) result }
-{
-    command.try_get_matches_from_mut(words)
-}
-
-// What the arguments ask for, as the command reads them.
-fn read_by<'a>(
-    alloc: Global,
-    command: &mut Command<'a>,
-    words: &'a [String],
-) -> Result<Task, Refused>
-    ensures { app_of command.old ≡ cases_app → IsCasesReading (map string_bytes words.entry.now) result }
-{
-    let matches = parsed(command, words)?;
-    match subcommand_task(alloc, Subcommand::Run, &matches, false) {
-        Ok(task) => Ok(task),
-        Err(refusal) => match told_by(alloc, command, refusal) {
-            Ok(refused) => Err(refused),
-            Err(error) => Err(Refused::Line(Error::from(error))),
-        },
-    }
+    with_options(alloc, program, Subcommand::Run, &RUN_OPTIONS[..12])
 }
 
 /// What the arguments of a program with test cases of its own ask for, the first of which is its name: what those of
@@ -76,8 +43,10 @@ fn read_by<'a>(
 pub fn read_cases_task(alloc: Global, words: &[String]) -> Result<Task, Refused>
     ensures { IsCasesReading (map string_bytes words.entry.now) result }
 {
-    match cases_command(alloc, program_name(words)) {
-        Ok(mut command) => read_by(alloc, &mut command, words),
-        Err(error) => Err(Refused::Line(Error::from(error))),
+    let mut command = cases_command(alloc, program_name(words))?;
+    let matches = command.try_get_matches_from_mut(words)?;
+    match subcommand_task(alloc, Subcommand::Run, &matches, false) {
+        Ok(task) => Ok(task),
+        Err(refusal) => Err(told_by(&mut command, refusal)?),
     }
 }

@@ -1,11 +1,11 @@
 //! The program's command, with its subcommands and their options.
-ghost use Rattle.std.specs.Prelude.{◌≡◌, IfOk, Some, false};
-ghost use Rattle.clap.specs.Words.{app_of, kind_of, new_app, new_rule, rule_of, with_subcommand as and_subcommand};
+ghost use Rattle.std.specs.Prelude.{◌≡◌, ◌∷◌, [], IfOk, codes, false, find};
+ghost use Rattle.std.specs.Str.{bytes_eq};
+ghost use Rattle.clap.specs.Words.{app_of, new_app, rule_of};
 ghost use Rattle.clap.specs.declared.builder.command.Command.TheViews.{out-Command};
-ghost use Rattle.tc_command.specs.{Command.run, Command.ttrun, Inside.GrowsBy, Inside.app_of_subcommand, Inside.rule_of_row, Inside.with_each, Inside.with_rows};
+ghost use Rattle.tc_command.specs.{Command.app_of_subcommand, Command.offer_of, Command.option_rule, Command.subcommands, Command.ttrun, Command.with_options as and_options, Inside.GrowsBy, Inside.with_named};
 
-use clap::error::ErrorKind;
-use clap::{Arg, ArgAction, Command, Error};
+use clap::{Arg, ArgAction, Command};
 use std::alloc::{AllocError, Global};
 
 /// The version of the program.
@@ -133,230 +133,6 @@ Status: 0 for none and pass, 1 for inconc and fail, 2 for error and for a test
 case that is not over, 3 for a refused line or a fault.",
 );
 
-// An option: its name, what the help calls its value, if it takes one, and what the help says of it.
-#[derive(Clone, Copy)]
-pub(crate) enum OptionRow {
-    /// It takes no value.
-    Flag(&'static str, &'static str),
-    /// It takes one value.
-    Word(&'static str, &'static str, &'static str),
-    /// It takes one value or none.
-    MaybeWord(&'static str, &'static str, &'static str),
-    /// It takes one value each time that it is given.
-    Words(&'static str, &'static str, &'static str),
-}
-
-const EXPLAIN: OptionRow = OptionRow::Flag("explain", "says more of the fault of a refused text");
-
-const NO_EXPLAIN: OptionRow = OptionRow::Flag(
-    "no-explain",
-    "says no more of it, also at a terminal",
-);
-
-// The option of a script with evidence after it.
-const FAILED: OptionRow = OptionRow::Flag(
-    "failed",
-    "leaves out what passed by evidence in the input",
-);
-
-// The options of histories next to their script, as `run` was given them.
-const SCRIPT: OptionRow = OptionRow::Flag(
-    "script",
-    "reads their script first, and compares them with it",
-);
-
-const SCRIPT_ONLY: OptionRow = OptionRow::Words(
-    "only",
-    "NAME",
-    "chooses this test case; may be given again, for others",
-);
-
-const SCRIPT_SHARD: OptionRow = OptionRow::Word(
-    "shard",
-    "K/N",
-    "awaits the K-th of N shards of the test cases",
-);
-
-const NOT_PASSED: OptionRow = OptionRow::Flag(
-    "failed",
-    "leaves out what has the verdict none or pass",
-);
-
-const LAST: OptionRow = OptionRow::Flag("last", "counts only the last history of each name");
-
-const LONG: OptionRow = OptionRow::Flag(
-    "long",
-    "takes any number of histories, 16 MiB each at most",
-);
-
-const SUITE: OptionRow = OptionRow::Word(
-    "suite",
-    "NAME",
-    "calls the JUnit suite NAME instead of ttrun",
-);
-
-/// The options of a run of test cases.
-pub(crate) const RUN_OPTIONS: [OptionRow; 12] = [
-    OptionRow::Flag("csv", "writes the report as CSV"),
-    OptionRow::Flag("history", "writes the histories of the test cases"),
-    OptionRow::Flag("evidence", "writes histories with the names of behaviours"),
-    OptionRow::Flag("junit", "writes the report as a JUnit suite"),
-    SUITE,
-    OptionRow::Flag("times", "gives the JUnit suite times"),
-    OptionRow::Flag("live", "writes each test case as it finishes"),
-    OptionRow::MaybeWord(
-        "progress",
-        "failures",
-        "reports all, or failures, on standard error",
-    ),
-    OptionRow::Word(
-        "stop-on",
-        "VERDICT",
-        "ends after a test case of this verdict or worse",
-    ),
-    OptionRow::Flag("list", "prints the names of test cases, and runs none"),
-    OptionRow::Words(
-        "only",
-        "NAME",
-        "runs this test case; may be given several times",
-    ),
-    OptionRow::Word(
-        "shard",
-        "K/N",
-        "runs the K-th of N shards of the test cases",
-    ),
-];
-
-// The options of `run` that are of its script.
-const RUN_SCRIPT_OPTIONS: [OptionRow; 4] = [FAILED, LAST, EXPLAIN, NO_EXPLAIN];
-
-const EXPLORE_OPTIONS: [OptionRow; 11] = [
-    OptionRow::Flag(
-        "history",
-        "writes a history for each verdict that was found",
-    ),
-    OptionRow::Flag(
-        "evidence",
-        "writes these histories with the names of behaviours",
-    ),
-    OptionRow::Flag(
-        "details",
-        "says where schedules part and who waits for whom",
-    ),
-    OptionRow::Flag(
-        "locals",
-        "says which local verdicts are not always the same",
-    ),
-    OptionRow::Word("states", "N", "looks at N states of a test case at most"),
-    OptionRow::Words(
-        "only",
-        "NAME",
-        "explores this test case; may be given again, for others",
-    ),
-    OptionRow::Word(
-        "shard",
-        "K/N",
-        "explores the K-th of N shards of the test cases",
-    ),
-    FAILED,
-    LAST,
-    EXPLAIN,
-    NO_EXPLAIN,
-];
-
-const CHECK_OPTIONS: [OptionRow; 8] = [
-    SCRIPT,
-    SCRIPT_ONLY,
-    SCRIPT_SHARD,
-    NOT_PASSED,
-    LAST,
-    LONG,
-    EXPLAIN,
-    NO_EXPLAIN,
-];
-
-const MODEL_OPTIONS: [OptionRow; 6] = [SCRIPT_ONLY, NOT_PASSED, LAST, LONG, EXPLAIN, NO_EXPLAIN];
-
-const REPORT_OPTIONS: [OptionRow; 14] = [
-    OptionRow::Flag("text", "writes the text report"),
-    OptionRow::Flag("csv", "writes a table as CSV"),
-    OptionRow::Flag("junit", "writes a JUnit suite"),
-    SUITE,
-    OptionRow::Flag("html", "writes a page for a browser"),
-    OptionRow::Flag("summary", "writes the counts, and why test cases failed"),
-    SCRIPT,
-    SCRIPT_ONLY,
-    SCRIPT_SHARD,
-    NOT_PASSED,
-    LAST,
-    LONG,
-    EXPLAIN,
-    NO_EXPLAIN,
-];
-
-// An option of this name, of which the help says this.
-fn named<'a>(alloc: Global, name: &'a str, help: &'a str) -> Arg<'a>
-    ensures rule { rule_of result ≡ record (new_rule name.entry.now) { long = Some name.entry.now } }
-    ensures local { result.global ≡ false }
-{
-    Arg::new(alloc, name).long(name).help(help)
-}
-
-fn option_of<'a>(alloc: Global, row: OptionRow) -> Arg<'a>
-    ensures rule { rule_of result ≡ rule_of_row row }
-    ensures local { result.global ≡ false }
-{
-    match row {
-        OptionRow::Flag(name, help) => named(alloc, name, help).action(ArgAction::SetTrue),
-        OptionRow::Word(name, word, help) => named(alloc, name, help)
-            .value_name(word)
-            .action(ArgAction::Set),
-        OptionRow::MaybeWord(name, word, help) => named(alloc, name, help)
-            .value_name(word)
-            .num_args(..=1)
-            .action(ArgAction::Set),
-        OptionRow::Words(name, word, help) => named(alloc, name, help)
-            .value_name(word)
-            .action(ArgAction::Append),
-    }
-}
-
-/// The command with these options more.
-pub(crate) fn with_options<'a>(
-    alloc: Global,
-    mut command: Command<'a>,
-    rows: &[OptionRow],
-) -> Result<Command<'a>, AllocError>
-    ensures { IfOk result (GrowsBy (with_rows rows.now) command.entry) }
-{
-    for row in rows {
-        command = command.arg(option_of(alloc, *row))?;
-    }
-    Ok(command)
-}
-
-// A command of this name with these options. The help says the first text of it, and the other at its end.
-fn offered<'a>(
-    alloc: Global,
-    name: &'a str,
-    help: (&'a str, &'a str),
-    rows: &[OptionRow],
-) -> Result<Command<'a>, AllocError>
-    ensures options { IfOk result (λ c. app_of c ≡ with_rows rows.now (new_app name.entry.now)) }
-    ensures local { IfOk result (λ c. (out-Command c).has_globals ≡ false) }
-{
-    let command = Command::new(alloc, name).about(help.0).after_help(help.1);
-    with_options(alloc, command, rows)
-}
-
-fn run_command<'a>(alloc: Global) -> Result<Command<'a>, AllocError>
-    ensures options { IfOk result (λ c. app_of c ≡ run) }
-    ensures local { IfOk result (λ c. (out-Command c).has_globals ≡ false) }
-{
-    let command = offered(alloc, "run", RUN_HELP, &RUN_OPTIONS)?;
-    with_options(alloc, command, &RUN_SCRIPT_OPTIONS)
-}
-
 /// What the program does, by its subcommands.
 #[derive(Clone, Copy)]
 pub(crate) enum Subcommand {
@@ -380,9 +156,34 @@ pub(crate) const SUBCOMMANDS: [Subcommand; 7] = [
     Subcommand::Replay,
 ];
 
+/// The names of options.
+pub(crate) type Names = &'static [&'static str];
+
+/// The options of `run`, the last two of which need a script.
+pub(crate) const RUN_OPTIONS: [&str; 14] = [
+    "csv", "history", "evidence", "junit", "suite", "times", "live", "progress", "stop-on", "list",
+    "only", "shard", "failed", "last",
+];
+
+const EXPLORE_OPTIONS: [&str; 9] = [
+    "history", "evidence", "details", "locals", "states", "only", "shard", "failed", "last",
+];
+
+// The options of histories next to their script, as `run` was given them.
+const CHECK_OPTIONS: [&str; 6] = ["script", "only", "shard", "failed", "last", "long"];
+
+const REPORT_OPTIONS: [&str; 12] = [
+    "text", "csv", "junit", "suite", "html", "summary", "script", "only", "shard", "failed",
+    "last", "long",
+];
+
+const MODEL_OPTIONS: [&str; 4] = ["only", "failed", "last", "long"];
+
 impl Subcommand {
     /// Its name.
-    pub(crate) fn name(self) -> &'static str {
+    pub(crate) fn name(self) -> &'static str
+        ensures { result.now ≡ (offer_of self).0 }
+    {
         match self {
             Subcommand::Run => "run",
             Subcommand::Serve => "serve",
@@ -393,19 +194,129 @@ impl Subcommand {
             Subcommand::Replay => "replay",
         }
     }
+}
 
-    // Its name after that of the program.
-    fn usage_name(self) -> &'static str {
-        match self {
-            Subcommand::Run => "ttrun run",
-            Subcommand::Serve => "ttrun serve",
-            Subcommand::Explore => "ttrun explore",
-            Subcommand::Check => "ttrun check",
-            Subcommand::Report => "ttrun report",
-            Subcommand::Model => "ttrun model",
-            Subcommand::Replay => "ttrun replay",
-        }
+/// The subcommand of this name.
+pub(crate) fn subcommand_named(name: &str) -> Option<Subcommand>
+    ensures { result ≡ find (λ s. bytes_eq (offer_of s).0 name.now) subcommands }
+{
+    SUBCOMMANDS.iter().copied().find(|it| it.name() == name)
+}
+
+// What the help of `run` says of an option; of those of its script what that of `explore` does.
+fn run_help(name: &str) -> &'static str {
+    match name {
+        "csv" => "writes the report as CSV",
+        "history" => "writes the histories of the test cases",
+        "evidence" => "writes histories with the names of behaviours",
+        "junit" => "writes the report as a JUnit suite",
+        "times" => "gives the JUnit suite times",
+        "live" => "writes each test case as it finishes",
+        "progress" => "reports all, or failures, on standard error",
+        "stop-on" => "ends after a test case of this verdict or worse",
+        "list" => "prints the names of test cases, and runs none",
+        "only" => "runs this test case; may be given several times",
+        "shard" => "runs the K-th of N shards of the test cases",
+        _ => explore_help(name),
     }
+}
+
+// What the help of `explore` says of an option.
+fn explore_help(name: &str) -> &'static str {
+    match name {
+        "history" => "writes a history for each verdict that was found",
+        "evidence" => "writes these histories with the names of behaviours",
+        "details" => "says where schedules part and who waits for whom",
+        "locals" => "says which local verdicts are not always the same",
+        "states" => "looks at N states of a test case at most",
+        "only" => "explores this test case; may be given again, for others",
+        "shard" => "explores the K-th of N shards of the test cases",
+        "failed" => "leaves out what passed by evidence in the input",
+        _ => history_help(name),
+    }
+}
+
+// What the help of the other subcommands says of an option.
+fn history_help(name: &str) -> &'static str {
+    match name {
+        "text" => "writes the text report",
+        "csv" => "writes a table as CSV",
+        "junit" => "writes a JUnit suite",
+        "suite" => "calls the JUnit suite NAME instead of ttrun",
+        "html" => "writes a page for a browser",
+        "summary" => "writes the counts, and why test cases failed",
+        "script" => "reads their script first, and compares them with it",
+        "only" => "chooses this test case; may be given again, for others",
+        "shard" => "awaits the K-th of N shards of the test cases",
+        "failed" => "leaves out what has the verdict none or pass",
+        "last" => "counts only the last history of each name",
+        "long" => "takes any number of histories, 16 MiB each at most",
+        "explain" => "says more of the fault of a refused text",
+        "no-explain" => "says no more of it, also at a terminal",
+        _ => "",
+    }
+}
+
+fn help_of(subcommand: Subcommand, name: &str) -> &'static str {
+    match subcommand {
+        Subcommand::Run => run_help(name),
+        Subcommand::Explore => explore_help(name),
+        _ => history_help(name),
+    }
+}
+
+// The option of this name, of which the help says this.
+fn option_of<'a>(alloc: Global, name: &'a str, help: &'a str) -> Arg<'a>
+    ensures rule { rule_of result ≡ option_rule name.entry.now }
+    ensures local { result.global ≡ false }
+{
+    let option = Arg::new(alloc, name).long(name).help(help);
+    match name {
+        "only" => option.value_name("NAME").action(ArgAction::Append),
+        "progress" => option
+            .value_name("failures")
+            .num_args(..=1)
+            .action(ArgAction::Set),
+        "suite" => option.value_name("NAME").action(ArgAction::Set),
+        "stop-on" => option.value_name("VERDICT").action(ArgAction::Set),
+        "states" => option.value_name("N").action(ArgAction::Set),
+        "shard" => option.value_name("K/N").action(ArgAction::Set),
+        _ => option.action(ArgAction::SetTrue),
+    }
+}
+
+/// The command with the options of these names more.
+pub(crate) fn with_options<'a>(
+    alloc: Global,
+    mut command: Command<'a>,
+    subcommand: Subcommand,
+    names: &[&'static str],
+) -> Result<Command<'a>, AllocError>
+    ensures { IfOk result (GrowsBy (with_named names.now) command.entry) }
+{
+    for name in names {
+        command = command.arg(option_of(alloc, name, help_of(subcommand, name)))?;
+    }
+    Ok(command)
+}
+
+// The command of a subcommand that has these options, and those of explanations. The help says the first text of it,
+// and the other at its end.
+fn offered<'a>(
+    alloc: Global,
+    subcommand: Subcommand,
+    help: (&'a str, &'a str),
+    names: &[&'static str],
+) -> Result<Command<'a>, AllocError>
+    ensures options { IfOk result (λ c. app_of c ≡ and_options
+        (with_named names.now (new_app (offer_of subcommand).0)) (codes "explain" ∷ codes "no-explain" ∷ [])) }
+    ensures local { IfOk result (λ c. (out-Command c).has_globals ≡ false) }
+{
+    let command = Command::new(alloc, subcommand.name())
+        .about(help.0)
+        .after_help(help.1);
+    let command = with_options(alloc, command, subcommand, names)?;
+    with_options(alloc, command, subcommand, &["explain", "no-explain"])
 }
 
 fn subcommand_of<'a>(alloc: Global, subcommand: Subcommand) -> Result<Command<'a>, AllocError>
@@ -413,13 +324,17 @@ fn subcommand_of<'a>(alloc: Global, subcommand: Subcommand) -> Result<Command<'a
     ensures local { IfOk result (λ c. (out-Command c).has_globals ≡ false) }
 {
     match subcommand {
-        Subcommand::Run => run_command(alloc),
-        Subcommand::Serve => offered(alloc, "serve", SERVE_HELP, &[]),
-        Subcommand::Explore => offered(alloc, "explore", EXPLORE_HELP, &EXPLORE_OPTIONS),
-        Subcommand::Check => offered(alloc, "check", CHECK_HELP, &CHECK_OPTIONS),
-        Subcommand::Report => offered(alloc, "report", REPORT_HELP, &REPORT_OPTIONS),
-        Subcommand::Model => offered(alloc, "model", MODEL_HELP, &MODEL_OPTIONS),
-        Subcommand::Replay => offered(alloc, "replay", REPLAY_HELP, &[EXPLAIN, NO_EXPLAIN]),
+        Subcommand::Run => offered(alloc, subcommand, RUN_HELP, &RUN_OPTIONS),
+        Subcommand::Serve => Ok(
+            Command::new(alloc, "serve")
+                .about(SERVE_HELP.0)
+                .after_help(SERVE_HELP.1),
+        ),
+        Subcommand::Explore => offered(alloc, subcommand, EXPLORE_HELP, &EXPLORE_OPTIONS),
+        Subcommand::Check => offered(alloc, subcommand, CHECK_HELP, &CHECK_OPTIONS),
+        Subcommand::Report => offered(alloc, subcommand, REPORT_HELP, &REPORT_OPTIONS),
+        Subcommand::Model => offered(alloc, subcommand, MODEL_HELP, &MODEL_OPTIONS),
+        Subcommand::Replay => offered(alloc, subcommand, REPLAY_HELP, &[]),
     }
 }
 
@@ -428,54 +343,20 @@ pub(crate) fn usage_command<'a>(
     alloc: Global,
     subcommand: Subcommand,
 ) -> Result<Command<'a>, AllocError> {
-    subcommand_of(alloc, subcommand)?.bin_name(subcommand.usage_name())
-}
-
-/// An error with the usage of the subcommand.
-pub(crate) fn usage_error(
-    alloc: Global,
-    subcommand: Subcommand,
-    kind: ErrorKind,
-    text: &str,
-) -> Result<Error, AllocError>
-    ensures { IfOk result (λ e. kind_of e ≡ kind) }
-{
-    let mut command = usage_command(alloc, subcommand)?;
-    command.error(kind, text)
-}
-
-// The program's command with this subcommand more.
-fn with_subcommand<'a>(
-    alloc: Global,
-    program: Command<'a>,
-    subcommand: Subcommand,
-) -> Result<Command<'a>, AllocError>
-    ensures { IfOk result (GrowsBy (λ app. and_subcommand app (app_of_subcommand subcommand).top) program.entry) }
-{
-    program.subcommand(subcommand_of(alloc, subcommand)?)
-}
-
-// The program's command with these subcommands more.
-fn with_subcommands<'a>(
-    alloc: Global,
-    mut program: Command<'a>,
-    subcommands: &[Subcommand],
-) -> Result<Command<'a>, AllocError>
-    ensures { IfOk result (GrowsBy (with_each subcommands.now) program.entry) }
-{
-    for subcommand in subcommands {
-        program = with_subcommand(alloc, program, *subcommand)?;
-    }
-    Ok(program)
+    let usage = format!(in alloc; "ttrun {}", subcommand.name())?;
+    subcommand_of(alloc, subcommand)?.bin_name(usage.as_str())
 }
 
 /// The command with its subcommands.
 pub(crate) fn command<'a>(alloc: Global) -> Result<Command<'a>, AllocError>
     ensures { IfOk result (λ c. app_of c ≡ ttrun) }
 {
-    let program = Command::new(alloc, "ttrun")
+    let mut program = Command::new(alloc, "ttrun")
         .about("the component control runtime of a TTCN-3 test executor")
         .version(VERSION)
         .after_help(PROGRAM_HELP);
-    with_subcommands(alloc, program, &SUBCOMMANDS)
+    for subcommand in &SUBCOMMANDS {
+        program = program.subcommand(subcommand_of(alloc, *subcommand)?)?;
+    }
+    Ok(program)
 }

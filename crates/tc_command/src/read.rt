@@ -1,19 +1,21 @@
 //! The arguments, and the task that they ask for.
-ghost use Rattle.std.specs.Prelude.{◌≡◌, ◌∷◌, [], All, IfOk, IfErr, IfSome, List, OnOk, Some, codes, false, is_err, is_some, map, option_copied, string_bytes, true};
+ghost use Rattle.std.specs.Prelude.{◌≡◌, [], All, IfOk, IfErr, OnOk, Some, None, codes, false, is_none, is_some, map, option_copied, string_bytes};
 ghost use Rattle.std.specs.List.{list_any};
-ghost use Rattle.clap.specs.Words.{FailsBy, Row, app_of, fault_of, first_of, found_of, is_simple, is_simple_and_free, rows_of, subcommand_of, subcommand_rows_of};
-ghost use Rattle.tc_entry.specs.Prelude.{IsName, IsPattern};
-ghost use Rattle.tc_command.specs.{Asked.Asks, Asked.AsksRun, Asked.Chooses, Asked.IsReading, Asked.command_line_of, Asked.form_of, Asked.gives_pair, Asked.is_explained, Asked.is_given, Asked.lacks_form as spec_lacks_form, Asked.lacks_script as spec_lacks_script, Asked.needs as spec_needs, Asked.option_faults, Asked.option_values, Asked.report_form_of, Asked.subcommand_named as spec_named, Command.IsGood, Command.IsShardOf, Command.ttrun, Inside.IsBadWord, Inside.IsRefusedBy, Inside.IsTaken, Inside.IsWordRefused, Inside.lacks_option, declared.command.Subcommand.TheVariants.Check, declared.command.Subcommand.TheVariants.Explore, declared.command.Subcommand.TheVariants.Model, declared.command.Subcommand.TheVariants.Report, declared.command.Subcommand.TheVariants.Run, declared.read.Refused.Refused};
+ghost use Rattle.clap.specs.Words.{first_of, found_of, kind_of, rows_of, subcommand_rows_of};
+ghost use Rattle.clap.specs.declared.error.{Error.Error as ClapError, kind.ErrorKind.TheVariants.OutOfMemory};
+ghost use Rattle.tc_entry.specs.Prelude.{IsPattern};
+ghost use Rattle.tc_command.specs.{Asked.Asks, Asked.Chooses, Asked.IsReadAs, Asked.IsReading, Asked.command_line_of, Asked.form_of, Asked.gives_pair, Asked.is_explained, Asked.is_given, Asked.lacks_script as spec_lacks_script, Asked.option_faults, Asked.option_values, Asked.report_form_of, Command.IsGood, Command.IsShardOf, Inside.IsRefusedBy, Inside.IsTaken, Inside.IsWordRefused, Inside.given_so, Inside.needs as spec_needs, declared.command.Subcommand.TheVariants.Check, declared.command.Subcommand.TheVariants.Explore, declared.command.Subcommand.TheVariants.Report, declared.command.Subcommand.TheVariants.Run, declared.read.Refused.Refused};
 
-use crate::command::{Subcommand, command};
-use crate::refusal::{Lack, Refusal, told_of};
+use crate::command::{Names, Subcommand, command, subcommand_named, usage_command};
+use crate::refusal::{Refusal, told_by};
 use crate::stray::with_tip;
 use crate::task::{Choice, ExploreOptions, Form, ReportForm, RunOptions, Task};
 use crate::word::{self, WordFault};
+use clap::error::ErrorKind;
 use clap::parser::ValueSource;
-use clap::{ArgMatches, Command, Error};
-use std::alloc::Global;
-use tc_entry::{Name, Pattern};
+use clap::{ArgMatches, Error};
+use std::alloc::{AllocError, Global};
+use tc_entry::Name;
 
 /// Why arguments ask for no task.
 #[derive(Drop)]
@@ -32,54 +34,43 @@ impl From<Error> for Refused {
     }
 }
 
-// Pairs of options that exclude each other. A subcommand that lacks one of them is never given both. The definition of
+impl From<AllocError> for Refused {
+    ghost from_gives = { λ _ r. (e : ClapError) × (r ≡ Refused.Line e) × (kind_of e ≡ OutOfMemory) };
+
+    fn from(error: AllocError) -> Refused {
+        Refused::Line(Error::from(error))
+    }
+}
+
+// Options with others that exclude them. A subcommand that lacks one of them is never given both. The definition of
 // what is refused has this table and the next two from here.
-const APART: [(&str, &str); 35] = [
-    ("explain", "no-explain"),
-    ("text", "csv"),
-    ("text", "junit"),
-    ("text", "html"),
-    ("text", "summary"),
-    ("csv", "history"),
-    ("csv", "evidence"),
-    ("csv", "junit"),
-    ("history", "evidence"),
-    ("history", "junit"),
-    ("evidence", "junit"),
-    ("csv", "html"),
-    ("csv", "summary"),
-    ("junit", "html"),
-    ("junit", "summary"),
-    ("html", "summary"),
-    ("html", "failed"),
-    ("html", "last"),
-    ("script", "failed"),
-    ("script", "long"),
-    ("text", "long"),
-    ("html", "long"),
-    ("explain", "long"),
-    ("history", "details"),
-    ("history", "locals"),
-    ("evidence", "details"),
-    ("evidence", "locals"),
-    ("list", "csv"),
-    ("list", "history"),
-    ("list", "evidence"),
-    ("list", "junit"),
-    ("list", "live"),
-    ("list", "progress"),
-    ("list", "stop-on"),
-    ("junit", "live"),
+const APART: [(&str, Names); 16] = [
+    ("explain", &["no-explain"]),
+    ("text", &["csv", "junit", "html", "summary"]),
+    ("csv", &["history", "evidence", "junit", "html", "summary"]),
+    ("history", &["evidence", "junit"]),
+    ("evidence", &["junit"]),
+    ("junit", &["html", "summary"]),
+    ("html", &["summary", "failed", "last"]),
+    ("script", &["failed", "long"]),
+    ("text", &["long"]),
+    ("html", &["long"]),
+    ("explain", &["long"]),
+    ("history", &["details", "locals"]),
+    ("evidence", &["details", "locals"]),
+    ("list", &["csv", "history", "evidence", "junit"]),
+    ("list", &["live", "progress", "stop-on"]),
+    ("junit", &["live"]),
 ];
 
-// Pairs of which the first option needs the second, where histories are read without a script.
-const HISTORY_NEEDS: [(&str, &str); 1] = [("suite", "junit")];
+// Options of `report` that need another.
+const HISTORY_NEEDS: [(&str, Names); 1] = [("suite", &["junit"])];
 
-// Such pairs of all other subcommands.
-const SCRIPT_NEEDS: [(&str, &str); 3] = [
-    ("suite", "junit"),
-    ("times", "junit"),
-    ("last", "failed"),
+// Such options of `run` and `explore`.
+const SCRIPT_NEEDS: [(&str, Names); 3] = [
+    ("suite", &["junit"]),
+    ("times", &["junit"]),
+    ("last", &["failed"]),
 ];
 
 // Whether the arguments have this option.
@@ -90,16 +81,32 @@ fn has_option(matches: &ArgMatches<'_>, id: &str) -> bool
     matches!(matches.value_source(id), Some(ValueSource::CommandLine))
 }
 
-// The first of these pairs whose first option is given, with the second or without it.
+// The first of these options that is given, or that is not.
+fn one_of(options: &ArgMatches<'_>, names: &[&'static str], given: bool) -> Option<&'static str>
+    ensures { is_some result ≡ list_any (given_so given (rows_of (found_of options.now)))
+        (map (λ n. n.now) names.now) }
+{
+    for name in names {
+        if has_option(options, name) == given {
+            return Some(name);
+        }
+    }
+    None
+}
+
+// The first of these options that is given with one that is listed after it, or without one.
 fn given_pair(
     options: &ArgMatches<'_>,
-    pairs: &[(&'static str, &'static str)],
+    rows: &[(&'static str, Names)],
     with: bool,
 ) -> Option<(&'static str, &'static str)>
-    ensures { is_some result ≡ list_any (λ p. gives_pair with (rows_of (found_of options.now)) (p.0.now, p.1.now)) pairs.now }
+    ensures { is_some result ≡ list_any (gives_pair with (rows_of (found_of options.now)))
+        (map (λ p. (p.0.now, map (λ o. o.now) p.1.now)) rows.now) }
 {
-    for (first, second) in pairs {
-        if has_option(options, first) && has_option(options, second) == with {
+    for (first, others) in rows {
+        if has_option(options, first)
+            && let Some(second) = one_of(options, others, with)
+        {
             return Some((first, second));
         }
     }
@@ -119,16 +126,6 @@ fn word_of<'a>(options: &ArgMatches<'a>, id: &str) -> Option<&'a str>
     ensures { option_copied result ≡ first_of id.now (rows_of (found_of options.now)) }
 {
     options.get_str(id)
-}
-
-// The name that the options give to a suite, if they give one.
-fn suite(options: &ArgMatches<'_>) -> Result<Option<Name>, WordFault>
-    ensures taken { IfOk result (λ name. name ≡ first_of (codes "suite") (rows_of (found_of options.now))) }
-    ensures good { OnOk result (IfSome (first_of (codes "suite") (rows_of (found_of options.now))) IsName) }
-    ensures refused { IfErr result (λ f. (f ≡ WordFault.Suite)
-        × (IfSome (first_of (codes "suite") (rows_of (found_of options.now))) IsName → ⊥)) }
-{
-    word::suite(word_of(options, "suite"))
 }
 
 // The form that the options of `run` ask for, with the name of the suite.
@@ -151,8 +148,9 @@ fn form(options: &ArgMatches<'_>, suite: Option<Name>) -> Form
 
 // The form that the options of `report` ask for, if they ask for one, with the name of the suite.
 fn report_form(options: &ArgMatches<'_>, suite: Option<Name>) -> Option<ReportForm>
-    requires { suite ≡ first_of (codes "suite") (rows_of (found_of options.now)) }
-    ensures { result ≡ report_form_of (rows_of (found_of options.now)) }
+    ensures is { suite ≡ first_of (codes "suite") (rows_of (found_of options.now))
+        → result ≡ report_form_of (rows_of (found_of options.now)) }
+    ensures none { is_none result ≡ is_none (report_form_of (rows_of (found_of options.now))) }
 {
     if has_option(options, "text") {
         Some(ReportForm::Text)
@@ -169,20 +167,12 @@ fn report_form(options: &ArgMatches<'_>, suite: Option<Name>) -> Option<ReportFo
     }
 }
 
-// The patterns that `--only` is given.
+// The values of this option.
 #[tactic(auto, using(crate::proofs::Options::words_are, crate::proofs::Options::no_words))]
-fn patterns(alloc: Global, options: &ArgMatches<'_>) -> Result<Vec<Pattern>, Refusal>
-    ensures taken { IfOk result (λ v. v.items ≡ option_values (codes "only") (rows_of (found_of options.now))) }
-    ensures good { OnOk result (All IsPattern (option_values (codes "only") (rows_of (found_of options.now)))) }
-    ensures refused { IfErr result (IsBadWord (All IsPattern (option_values (codes "only") (rows_of (found_of options.now))) → ⊥) WordFault.Only) }
+fn words_of<'a>(options: &'a ArgMatches<'_>, id: &str) -> &'a [&'a str]
+    ensures { map (λ w. w.now) result.now ≡ option_values id.now (rows_of (found_of options.now)) }
 {
-    match options.get_strs("only") {
-        Some(words) => {
-            let words = words.to_vec(alloc)?;
-            word::patterns(alloc, words.as_slice())
-        }
-        None => Ok(Vec::new(alloc)),
-    }
+    options.get_strs(id).unwrap_or(&[])
 }
 
 // Which test cases the options choose.
@@ -193,7 +183,7 @@ fn choice(alloc: Global, options: &ArgMatches<'_>) -> Result<Choice, Refusal>
     ensures refused { IfErr result (IsWordRefused (rows_of (found_of options.now))) }
 {
     let shard = word::shard(word_of(options, "shard"))?;
-    let only = patterns(alloc, options)?;
+    let only = word::patterns(alloc, words_of(options, "only"))?;
     Ok(Choice {
         only,
         shard,
@@ -203,20 +193,20 @@ fn choice(alloc: Global, options: &ArgMatches<'_>) -> Result<Choice, Refusal>
     })
 }
 
-// How the options ask for a campaign to be run.
-fn run_options(
-    alloc: Global,
-    options: &ArgMatches<'_>,
-    at_terminal: bool,
-) -> Result<RunOptions, Refusal>
-    ensures taken { IfOk result (AsksRun at_terminal (rows_of (found_of options.now))) }
+// What the options of `run` ask for.
+fn run_task(alloc: Global, options: &ArgMatches<'_>, at_terminal: bool) -> Result<Task, Refusal>
+    ensures taken { IfOk result (Asks at_terminal (Run, rows_of (found_of options.now))) }
     ensures refused { IfErr result (IsWordRefused (rows_of (found_of options.now))) }
 {
     let choice = choice(alloc, options)?;
-    let suite = suite(options)?;
+    let suite = word::suite(word_of(options, "suite"))?;
     let stop_on = word::stop_on(word_of(options, "stop-on"))?;
     let failures = word::failures(word_of(options, "progress"))?;
-    Ok(RunOptions {
+    let explains = explains(options, at_terminal);
+    if has_option(options, "list") {
+        return Ok(Task::List { choice, explains });
+    }
+    Ok(Task::Run(RunOptions {
         form: form(options, suite),
         times: has_option(options, "times"),
         live: has_option(options, "live"),
@@ -224,24 +214,8 @@ fn run_options(
         failures,
         stop_on,
         choice,
-        explains: explains(options, at_terminal),
-    })
-}
-
-// What the options of `run` ask for.
-fn run_task(alloc: Global, options: &ArgMatches<'_>, at_terminal: bool) -> Result<Task, Refusal>
-    ensures taken { IfOk result (Asks at_terminal (Run, rows_of (found_of options.now))) }
-    ensures refused { IfErr result (IsWordRefused (rows_of (found_of options.now))) }
-{
-    let run = run_options(alloc, options, at_terminal)?;
-    if has_option(options, "list") {
-        Ok(Task::List {
-            choice: run.choice,
-            explains: run.explains,
-        })
-    } else {
-        Ok(Task::Run(run))
-    }
+        explains,
+    }))
 }
 
 // What the options of `explore` ask for.
@@ -262,137 +236,78 @@ fn explore_task(alloc: Global, options: &ArgMatches<'_>, at_terminal: bool) -> R
     }))
 }
 
-// What the options of `report` ask for, in this form, with what they choose.
-fn report_in(options: &ArgMatches<'_>, at_terminal: bool, form: ReportForm, choice: Choice) -> Task
-    requires form { report_form_of (rows_of (found_of options.now)) ≡ Some form }
-    requires choice { Chooses (rows_of (found_of options.now)) choice }
-    ensures { Asks at_terminal (Report, rows_of (found_of options.now)) result }
+// What the options of `check` ask for, or those of `report` in this form, with what they choose.
+fn judging(
+    options: &ArgMatches<'_>,
+    at_terminal: bool,
+    form: Option<ReportForm>,
+    choice: Choice,
+) -> Task
+    requires { Chooses (rows_of (found_of options.now)) choice }
+    ensures check { form ≡ None → Asks at_terminal (Check, rows_of (found_of options.now)) result }
+    ensures report { is_none form ≡ false → report_form_of (rows_of (found_of options.now)) ≡ form
+        → Asks at_terminal (Report, rows_of (found_of options.now)) result }
 {
     let explains = explains(options, at_terminal);
     if has_option(options, "script") {
-        Task::Compare {
-            form: Some(form),
-            choice,
-            explains,
-        }
-    } else {
-        Task::Report {
+        return Task::Compare {
             form,
             choice,
             explains,
-        }
+        };
     }
-}
-
-// What the options of `report` ask for.
-fn report_task(alloc: Global, options: &ArgMatches<'_>, at_terminal: bool) -> Result<Task, Refusal>
-    requires { spec_lacks_form Report (rows_of (found_of options.now)) ≡ false }
-    ensures taken { IfOk result (Asks at_terminal (Report, rows_of (found_of options.now))) }
-    ensures refused { IfErr result (IsWordRefused (rows_of (found_of options.now))) }
-{
-    let choice = choice(alloc, options)?;
-    let suite = suite(options)?;
-    match report_form(options, suite) {
-        Some(form) => Ok(report_in(options, at_terminal, form, choice)),
-        None => unreachable!(),
-    }
-}
-
-// What the options of `check` ask for.
-fn check_task(alloc: Global, options: &ArgMatches<'_>, at_terminal: bool) -> Result<Task, Refusal>
-    ensures taken { IfOk result (Asks at_terminal (Check, rows_of (found_of options.now))) }
-    ensures refused { IfErr result (IsWordRefused (rows_of (found_of options.now))) }
-{
-    let choice = choice(alloc, options)?;
-    let explains = explains(options, at_terminal);
-    if has_option(options, "script") {
-        Ok(Task::Compare {
-            form: None,
+    match form {
+        Some(form) => Task::Report {
+            form,
             choice,
             explains,
-        })
-    } else {
-        Ok(Task::Check { choice, explains })
+        },
+        None => Task::Check { choice, explains },
     }
-}
-
-// What the options of `model` ask for.
-fn model_task(alloc: Global, options: &ArgMatches<'_>, at_terminal: bool) -> Result<Task, Refusal>
-    ensures taken { IfOk result (Asks at_terminal (Model, rows_of (found_of options.now))) }
-    ensures refused { IfErr result (IsWordRefused (rows_of (found_of options.now))) }
-{
-    Ok(Task::Model {
-        choice: choice(alloc, options)?,
-        explains: explains(options, at_terminal),
-    })
 }
 
 // Whether a shard is chosen, or what is on a page, and there is no script.
-fn lacks_script(subcommand: Subcommand, options: &ArgMatches<'_>) -> bool
-    ensures { result ≡ spec_lacks_script subcommand (rows_of (found_of options.now)) }
+fn lacks_script(options: &ArgMatches<'_>) -> bool
+    ensures { result ≡ spec_lacks_script (rows_of (found_of options.now)) }
 {
-    match subcommand {
-        Subcommand::Check | Subcommand::Report | Subcommand::Model => {
-            (has_option(options, "shard")
-                || (has_option(options, "only") && has_option(options, "html")))
-                && !has_option(options, "script")
-        }
-        _ => false,
-    }
+    (has_option(options, "shard") || (has_option(options, "only") && has_option(options, "html")))
+        && !has_option(options, "script")
 }
 
-// Whether a form is needed, and none is given.
-fn lacks_form(subcommand: Subcommand, options: &ArgMatches<'_>) -> bool
-    ensures { result ≡ spec_lacks_form subcommand (rows_of (found_of options.now)) }
+// The options of this subcommand that need another.
+fn needs(subcommand: Subcommand) -> &'static [(&'static str, Names)]
+    ensures { map (λ p. (p.0.now, map (λ o. o.now) p.1.now)) result.now ≡ spec_needs subcommand }
 {
     match subcommand {
-        Subcommand::Report => {
-            !has_option(options, "text")
-                && !has_option(options, "csv")
-                && !has_option(options, "junit")
-                && !has_option(options, "html")
-                && !has_option(options, "summary")
-        }
-        _ => false,
-    }
-}
-
-// The pairs of this subcommand of which the first option needs the second.
-fn needs(subcommand: Subcommand) -> &'static [(&'static str, &'static str)]
-    ensures { (rows : List Row) → list_any (λ p. gives_pair false rows (p.0.now, p.1.now)) result.now
-        ≡ list_any (gives_pair false rows) (spec_needs subcommand) }
-{
-    match subcommand {
-        Subcommand::Check | Subcommand::Report | Subcommand::Model => &HISTORY_NEEDS,
+        Subcommand::Check | Subcommand::Model => &[],
+        Subcommand::Report => &HISTORY_NEEDS,
         _ => &SCRIPT_NEEDS,
     }
 }
 
-// Refuses options without one that they need.
-fn refuse_lack(subcommand: Subcommand, options: &ArgMatches<'_>) -> Result<(), Lack>
-    ensures { is_err result ≡ lacks_option subcommand (rows_of (found_of options.now)) }
-{
-    if lacks_script(subcommand, options) {
-        return Err(Lack::Script);
-    }
-    if lacks_form(subcommand, options) {
-        return Err(Lack::Form);
-    }
-    match given_pair(options, needs(subcommand), false) {
-        Some((first, second)) => Err(Lack::Option(first, second)),
-        None => Ok(()),
-    }
-}
-
 // Refuses options that exclude each other, or lack one that they need.
-fn refuse(subcommand: Subcommand, options: &ArgMatches<'_>) -> Result<(), Refusal>
+fn refuse(alloc: Global, subcommand: Subcommand, options: &ArgMatches<'_>) -> Result<(), Refusal>
     ensures none { OnOk result (option_faults (subcommand, rows_of (found_of options.now)) ≡ []) }
     ensures some { IfErr result (IsRefusedBy (subcommand, rows_of (found_of options.now))) }
 {
-    match given_pair(options, &APART, true) {
-        Some((first, second)) => Err(Refusal::Conflict(first, second)),
-        None => Ok(refuse_lack(subcommand, options)?),
+    if let Some((first, second)) = given_pair(options, &APART, true) {
+        let text = format!(in alloc; "the argument '--{first}' cannot be used with '--{second}'")?;
+        return Err(Refusal::Options(ErrorKind::ArgumentConflict, text));
     }
+    let reads_script = matches!(subcommand, Subcommand::Check | Subcommand::Report);
+    let needs_form = matches!(subcommand, Subcommand::Report);
+    let text = if reads_script && lacks_script(options) {
+        format!(in alloc; "the arguments '--shard', and '--only' with '--html', need '--script'")?
+    } else if needs_form && report_form(options, None).is_none() {
+        format!(in alloc;
+            "one of the arguments '--text', '--csv', '--junit', '--html' and '--summary' is needed"
+        )?
+    } else if let Some((first, second)) = given_pair(options, needs(subcommand), false) {
+        format!(in alloc; "the argument '--{first}' needs '--{second}'")?
+    } else {
+        return Ok(());
+    };
+    Err(Refusal::Options(ErrorKind::MissingRequiredArgument, text))
 }
 
 /// What a subcommand with its options asks for.
@@ -406,13 +321,24 @@ pub(crate) fn subcommand_task(
     ensures taken { IfOk result (IsTaken at_terminal (subcommand, rows_of (found_of options.now))) }
     ensures refused { IfErr result (IsRefusedBy (subcommand, rows_of (found_of options.now))) }
 {
-    refuse(subcommand, options)?;
+    refuse(alloc, subcommand, options)?;
     match subcommand {
         Subcommand::Run => run_task(alloc, options, at_terminal),
         Subcommand::Explore => explore_task(alloc, options, at_terminal),
-        Subcommand::Report => report_task(alloc, options, at_terminal),
-        Subcommand::Check => check_task(alloc, options, at_terminal),
-        Subcommand::Model => model_task(alloc, options, at_terminal),
+        Subcommand::Report => {
+            let choice = choice(alloc, options)?;
+            let suite = word::suite(word_of(options, "suite"))?;
+            let form = report_form(options, suite);
+            Ok(judging(options, at_terminal, form, choice))
+        }
+        Subcommand::Check => {
+            let choice = choice(alloc, options)?;
+            Ok(judging(options, at_terminal, None, choice))
+        }
+        Subcommand::Model => Ok(Task::Model {
+            choice: choice(alloc, options)?,
+            explains: explains(options, at_terminal),
+        }),
         Subcommand::Replay => Ok(Task::Replay {
             explains: explains(options, at_terminal),
         }),
@@ -420,28 +346,12 @@ pub(crate) fn subcommand_task(
     }
 }
 
-// The subcommand of this name; any other word that the command line takes is `run`.
-fn subcommand_named(name: &str) -> Subcommand
-    ensures { result ≡ spec_named name.now }
-{
-    match name {
-        "check" => Subcommand::Check,
-        "replay" => Subcommand::Replay,
-        "explore" => Subcommand::Explore,
-        "report" => Subcommand::Report,
-        "model" => Subcommand::Model,
-        "serve" => Subcommand::Serve,
-        _ => Subcommand::Run,
-    }
-}
-
 // What the line asks for.
-fn task(alloc: Global, matches: &ArgMatches<'_>, at_terminal: bool) -> Result<Task, Refusal>
-    ensures taken { IfOk result (IsTaken at_terminal (command_line_of (subcommand_rows_of matches.now))) }
-    ensures refused { IfErr result (IsRefusedBy (command_line_of (subcommand_rows_of matches.now))) }
+fn line_task(alloc: Global, matches: &ArgMatches<'_>, at_terminal: bool) -> Result<Task, Refused>
+    ensures { IsReadAs at_terminal [] (command_line_of (subcommand_rows_of matches.now)) result }
 {
-    match matches.subcommand() {
-        None => Ok(Task::Run(RunOptions {
+    let Some((name, options)) = matches.subcommand() else {
+        return Ok(Task::Run(RunOptions {
             form: Form::Text,
             times: false,
             live: false,
@@ -450,54 +360,12 @@ fn task(alloc: Global, matches: &ArgMatches<'_>, at_terminal: bool) -> Result<Ta
             stop_on: None,
             choice: Choice::all(alloc),
             explains: at_terminal,
-        })),
-        Some((name, options)) => {
-            subcommand_task(alloc, subcommand_named(name), options, at_terminal)
-        }
-    }
-}
-
-// The subcommand that the line names; `run` if it names none.
-fn asked(matches: &ArgMatches<'_>) -> Subcommand {
-    match matches.subcommand() {
-        None => Subcommand::Run,
-        Some((name, _)) => subcommand_named(name),
-    }
-}
-
-// What the command finds in the arguments.
-fn parsed<'a>(
-    alloc: Global,
-    command: &mut Command<'a>,
-    words: &'a [String],
-) -> Result<ArgMatches<'a>, Error>
-    ensures found { IfOk result (λ m. is_simple (app_of command.old) ≡ true
-        → subcommand_rows_of m ≡ subcommand_of (app_of command.old) (map string_bytes words.entry.now)) }
-    ensures refused { is_simple_and_free (app_of command.old) ≡ true
-        → FailsBy (fault_of (app_of command.old) (map string_bytes words.entry.now)) result }
-{
-    match command.try_get_matches_from_mut(words) {
-        Ok(matches) => Ok(matches),
-        Err(error) => Err(with_tip(alloc, command, words, error)?),
-    }
-}
-
-// What the arguments ask for, as the program's command reads them.
-fn read_by<'a>(
-    alloc: Global,
-    command: &mut Command<'a>,
-    words: &'a [String],
-    at_terminal: bool,
-) -> Result<Task, Refused>
-    ensures { app_of command.old ≡ ttrun → IsReading at_terminal (map string_bytes words.entry.now) result }
-{
-    let matches = parsed(alloc, command, words)?;
-    match task(alloc, &matches, at_terminal) {
+        }));
+    };
+    let subcommand = subcommand_named(name).unwrap_or(Subcommand::Run);
+    match subcommand_task(alloc, subcommand, options, at_terminal) {
         Ok(task) => Ok(task),
-        Err(refusal) => match told_of(alloc, asked(&matches), refusal) {
-            Ok(refused) => Err(refused),
-            Err(error) => Err(Refused::Line(Error::from(error))),
-        },
+        Err(refusal) => Err(told_by(&mut usage_command(alloc, subcommand)?, refusal)?),
     }
 }
 
@@ -508,8 +376,9 @@ fn read_by<'a>(
 pub fn read_task(alloc: Global, words: &[String], at_terminal: bool) -> Result<Task, Refused>
     ensures { IsReading at_terminal (map string_bytes words.entry.now) result }
 {
-    match command(alloc) {
-        Ok(mut command) => read_by(alloc, &mut command, words, at_terminal),
-        Err(error) => Err(Refused::Line(Error::from(error))),
+    let mut command = command(alloc)?;
+    match command.try_get_matches_from_mut(words) {
+        Ok(matches) => line_task(alloc, &matches, at_terminal),
+        Err(error) => Err(Refused::Line(with_tip(alloc, &mut command, words, error)?)),
     }
 }

@@ -3,7 +3,7 @@ ghost use Rattle.std.specs.Prelude.{◌≡◌, IfOk};
 ghost use Rattle.clap.specs.Words.{kind_of};
 ghost use Rattle.clap.specs.declared.error.kind.ErrorKind.TheVariants.{InvalidSubcommand, UnknownArgument};
 
-use crate::command::{SUBCOMMANDS, Subcommand, usage_error};
+use crate::command::{SUBCOMMANDS, subcommand_named, usage_command};
 use clap::error::ErrorKind;
 use clap::{Command, Error};
 use std::alloc::{AllocError, Global};
@@ -14,39 +14,18 @@ const MOST_LETTERS: usize = 2;
 
 // Whether the word looks like the path of a file: it has a dot or a slash, and is no option.
 fn looks_like_file(word: &str) -> bool {
-    !word.starts_with('-')
-        && word
-            .as_bytes()
-            .iter()
-            .any(|byte| matches!(*byte, b'.' | b'/'))
-}
-
-// The subcommand of this name.
-fn subcommand_named(word: &str) -> Option<Subcommand> {
-    SUBCOMMANDS.iter().copied().find(|it| it.name() == word)
+    !word.starts_with('-') && word.contains(['.', '/'])
 }
 
 // The first subcommand whose name is nearly the word.
-fn nearest(alloc: Global, word: &str) -> Result<Option<Subcommand>, AllocError> {
-    for subcommand in SUBCOMMANDS {
-        if osa_distance(alloc, word, subcommand.name())? <= MOST_LETTERS {
-            return Ok(Some(subcommand));
+fn nearest(alloc: Global, word: &str) -> Result<Option<&'static str>, AllocError> {
+    for subcommand in &SUBCOMMANDS {
+        let name = subcommand.name();
+        if osa_distance(alloc, word, name)? <= MOST_LETTERS {
+            return Ok(Some(name));
         }
     }
     Ok(None)
-}
-
-// The error of a word that is no subcommand, with a tip.
-fn no_subcommand(
-    alloc: Global,
-    command: &mut Command<'_>,
-    word: &str,
-    tip: &str,
-) -> Result<Error, AllocError>
-    ensures { IfOk result (λ e. kind_of e ≡ InvalidSubcommand) }
-{
-    let text = format!(in alloc; "unrecognized subcommand '{word}'\n\n  tip: {tip}")?;
-    command.error(ErrorKind::InvalidSubcommand, text.as_str())
 }
 
 // The same error with a tip, if the word is a file or nearly a subcommand.
@@ -59,17 +38,15 @@ fn with_subcommand_tip(
     requires { kind_of error ≡ InvalidSubcommand }
     ensures { IfOk result (λ e. kind_of e ≡ InvalidSubcommand) }
 {
-    if looks_like_file(word) {
-        let tip = format!(in alloc; "ttrun run < {word}")?;
-        return no_subcommand(alloc, command, word, tip.as_str());
-    }
-    match nearest(alloc, word)? {
-        Some(near) => {
-            let tip = format!(in alloc; "a similar subcommand exists: '{}'", near.name())?;
-            no_subcommand(alloc, command, word, tip.as_str())
-        }
-        None => Ok(error),
-    }
+    let tip = if looks_like_file(word) {
+        format!(in alloc; "ttrun run < {word}")?
+    } else if let Some(near) = nearest(alloc, word)? {
+        format!(in alloc; "a similar subcommand exists: '{near}'")?
+    } else {
+        return Ok(error);
+    };
+    let text = format!(in alloc; "unrecognized subcommand '{word}'\n\n  tip: {tip}")?;
+    command.error(ErrorKind::InvalidSubcommand, text.as_str())
 }
 
 // Whether the error says that this word was not expected.
@@ -94,18 +71,7 @@ fn stray_file<'a>(
     Ok(None)
 }
 
-// The error of a file that a subcommand is given, with a tip how it is read.
-fn no_argument(alloc: Global, subcommand: Subcommand, word: &str) -> Result<Error, AllocError>
-    ensures { IfOk result (λ e. kind_of e ≡ UnknownArgument) }
-{
-    let name = subcommand.name();
-    let text = format!(in alloc;
-        "unexpected argument '{word}' found\n\n  tip: ttrun {name} < {word}"
-    )?;
-    usage_error(alloc, subcommand, ErrorKind::UnknownArgument, text.as_str())
-}
-
-// The same error with a tip, if a file is given to a subcommand.
+// The same error with a tip how a file is read, if one is given to the subcommand of this name.
 fn with_file_tip(
     alloc: Global,
     name: &str,
@@ -115,10 +81,14 @@ fn with_file_tip(
     requires { kind_of error ≡ UnknownArgument }
     ensures { IfOk result (λ e. kind_of e ≡ UnknownArgument) }
 {
-    match (subcommand_named(name), stray_file(alloc, &error, words)?) {
-        (Some(subcommand), Some(word)) => no_argument(alloc, subcommand, word),
-        _ => Ok(error),
-    }
+    let (Some(subcommand), Some(word)) = (subcommand_named(name), stray_file(alloc, &error, words)?)
+    else {
+        return Ok(error);
+    };
+    let text = format!(in alloc;
+        "unexpected argument '{word}' found\n\n  tip: ttrun {name} < {word}"
+    )?;
+    usage_command(alloc, subcommand)?.error(ErrorKind::UnknownArgument, text.as_str())
 }
 
 /// The error for arguments that are refused, with a tip if a file is given, or nearly a subcommand; its kind stays.
@@ -134,9 +104,7 @@ pub(crate) fn with_tip(
         return Ok(error);
     };
     match error.kind() {
-        ErrorKind::InvalidSubcommand => {
-            with_subcommand_tip(alloc, command, first.as_str(), error)
-        }
+        ErrorKind::InvalidSubcommand => with_subcommand_tip(alloc, command, first.as_str(), error),
         ErrorKind::UnknownArgument => with_file_tip(alloc, first.as_str(), rest, error),
         _ => Ok(error),
     }

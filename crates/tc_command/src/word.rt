@@ -5,7 +5,7 @@ ghost use Rattle.tc_entry.specs.Prelude.{IsName, IsPattern, ShardView};
 ghost use Rattle.tc_command.specs.{Command.IsGood, Command.IsProgressOf, Command.IsRuleOf, Command.IsShardOf, Command.IsStatesOf, Command.word_fault_text, Inside.IsBadWord, Inside.IsShardWord};
 
 use crate::refusal::Refusal;
-use std::alloc::Global;
+use std::alloc::{AllocError, Global};
 use tc_entry::{Name, Pattern, Shard};
 use tc_text::{read_number, take_number};
 use tc_verdict::{Verdict, read_name};
@@ -60,56 +60,47 @@ fn read_shard(word: &str) -> Option<Shard>
 }
 
 /// The shard of `--shard`, if there is one.
-pub(crate) fn shard(word: Option<&str>) -> Result<Option<Shard>, WordFault>
+pub(crate) fn shard(word: Option<&str>) -> Result<Option<Shard>, Refusal>
     ensures taken { IfOk result (IsShardOf (option_copied word.entry)) }
-    ensures refused { IfErr result (λ f. (f ≡ WordFault.Shard) × (IsGood IsShardOf (option_copied word.entry) → ⊥)) }
+    ensures refused { IfErr result (IsBadWord (IsGood IsShardOf (option_copied word.entry) → ⊥) WordFault.Shard) }
 {
     match word {
-        Some(word) => match read_shard(word) {
-            Some(shard) => Ok(Some(shard)),
-            None => Err(WordFault::Shard),
-        },
+        Some(word) => Ok(Some(read_shard(word).ok_or(Refusal::Word(WordFault::Shard))?)),
         None => Ok(None),
     }
 }
 
 /// The verdict of `--stop-on`, if there is one.
-pub(crate) fn stop_on(word: Option<&str>) -> Result<Option<Verdict>, WordFault>
+pub(crate) fn stop_on(word: Option<&str>) -> Result<Option<Verdict>, Refusal>
     ensures taken { IfOk result (IsRuleOf (option_copied word.entry)) }
-    ensures refused { IfErr result (λ f. (f ≡ WordFault.StopOn) × (IsGood IsRuleOf (option_copied word.entry) → ⊥)) }
+    ensures refused { IfErr result (IsBadWord (IsGood IsRuleOf (option_copied word.entry) → ⊥) WordFault.StopOn) }
 {
     match word {
-        Some(word) => match read_name(word) {
-            Some(verdict) => Ok(Some(verdict)),
-            None => Err(WordFault::StopOn),
-        },
+        Some(word) => Ok(Some(read_name(word).ok_or(Refusal::Word(WordFault::StopOn))?)),
         None => Ok(None),
     }
 }
 
 /// Whether `--progress` has the value `failures`.
-pub(crate) fn failures(word: Option<&str>) -> Result<bool, WordFault>
+pub(crate) fn failures(word: Option<&str>) -> Result<bool, Refusal>
     ensures taken { IfOk result (IsProgressOf (option_copied word.entry)) }
-    ensures refused { IfErr result (λ f. (f ≡ WordFault.Progress) × (IsGood IsProgressOf (option_copied word.entry) → ⊥)) }
+    ensures refused { IfErr result (IsBadWord (IsGood IsProgressOf (option_copied word.entry) → ⊥) WordFault.Progress) }
 {
     match word {
         Some("failures") => Ok(true),
-        Some(_) => Err(WordFault::Progress),
+        Some(_) => Err(Refusal::Word(WordFault::Progress)),
         None => Ok(false),
     }
 }
 
 /// The name of `--suite`, if there is one.
-pub(crate) fn suite(word: Option<&str>) -> Result<Option<Name>, WordFault>
+pub(crate) fn suite(word: Option<&str>) -> Result<Option<Name>, Refusal>
     ensures taken { IfOk result (λ name. name ≡ option_copied word.entry) }
     ensures good { OnOk result (IfSome (option_copied word.entry) IsName) }
-    ensures refused { IfErr result (λ f. (f ≡ WordFault.Suite) × (IfSome (option_copied word.entry) IsName → ⊥)) }
+    ensures refused { IfErr result (IsBadWord (IfSome (option_copied word.entry) IsName → ⊥) WordFault.Suite) }
 {
     match word {
-        Some(word) => match Name::read(word) {
-            Some(name) => Ok(Some(name)),
-            None => Err(WordFault::Suite),
-        },
+        Some(word) => Ok(Some(Name::read(word).ok_or(Refusal::Word(WordFault::Suite))?)),
         None => Ok(None),
     }
 }
@@ -128,15 +119,12 @@ fn read_states(word: &str) -> Option<usize>
 }
 
 /// The number of states of `--states`, or the one without it.
-pub(crate) fn states(word: Option<&str>) -> Result<usize, WordFault>
+pub(crate) fn states(word: Option<&str>) -> Result<usize, Refusal>
     ensures taken { IfOk result (IsStatesOf (option_copied word.entry)) }
-    ensures refused { IfErr result (λ f. (f ≡ WordFault.States) × (IsGood IsStatesOf (option_copied word.entry) → ⊥)) }
+    ensures refused { IfErr result (IsBadWord (IsGood IsStatesOf (option_copied word.entry) → ⊥) WordFault.States) }
 {
     match word {
-        Some(word) => match read_states(word) {
-            Some(states) => Ok(states),
-            None => Err(WordFault::States),
-        },
+        Some(word) => read_states(word).ok_or(Refusal::Word(WordFault::States)),
         None => Ok(STATES),
     }
 }
@@ -152,7 +140,7 @@ pub(crate) fn patterns(alloc: Global, words: &[&str]) -> Result<Vec<Pattern>, Re
         let Some(pattern) = Pattern::read(word) else {
             return Err(Refusal::Word(WordFault::Only));
         };
-        patterns.push(pattern)?;
+        patterns.push(pattern).map_err(AllocError::from)?;
     }
     Ok(patterns)
 }
