@@ -168,10 +168,12 @@ def as_they_finish(program: str) -> List[str]:
         # Each starts one behaviour forty times, which is an error at the second.
         why = b"run 0 main on mtc: start 2 run 1 other -> error no-behaviour: run 1 other was started before: a behaviour is started at most once"
         each = [lines_of(it, TEST_CASES, b"t%d" % (it - 1), b"error", why) for it in range(1, TEST_CASES + 1)]
-        written, count = len(ends_of_cases(ran.output, ())), ran.errors.count(b"\n")
+        # The signal may cut a line at the end of a page.
+        told = ran.errors[:ran.errors.rfind(b"\n") + 1]
+        written, count = len(ends_of_cases(ran.output, ())), told.count(b"\n")
         wanted = b"".join([line for begun, ended, _ in each for line in (begun, ended)][:count])
-        if untimed(ran.errors) != wanted:
-            return [first_difference(wanted, untimed(ran.errors))]
+        if untimed(told) != wanted:
+            return [first_difference(wanted, untimed(told))]
         # The lines after those about the test cases that are out.
         behind = count - 2 * written
         return [] if written and behind in (0, 1, 2) else [f"{count} lines are printed, and {written} test cases are out"]
