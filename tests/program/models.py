@@ -33,6 +33,10 @@ MODELS: List[Tuple[str, str, str]] = [
      "behaviour run_2 c3;  kill c3;  alive self;end;end"),
     ("a_start_that_is_refused", "history 1 t 2;0 create -> made 1;0 start 1 1 0 -> ok;0 start 1 1 -> error already-running;1 finish -> ended;end error",
      "testcase t;behaviour run_0;  create c1;  start c1 run_1 mtc;  start c1 run_1 mtc;end;behaviour run_1 c0;end;end"),
+    ("a_refused_start_with_more_arguments_than_the_run_was_given", "history 1 t 2;0 create -> made 1;0 create -> made 2;0 start 1 1 -> ok;"
+     "0 start 1 1 0 0 0 0 -> error already-running;1 running 2 -> ended;end error",
+     "testcase t;behaviour run_0;  create c1;  create c2;  start c1 run_1 c2 mtc mtc mtc;  start c1 run_1 mtc mtc mtc mtc;end;"
+     "behaviour run_1 c2 c0 p2 p3;  running c2;end;end"),
     ("a_start_of_the_main_behaviour", "history 1 t 1;0 create -> made 1;0 start 1 0 -> error no-behaviour;end error",
      "testcase t;behaviour run_0;  create c1;  start c1 run_0;end;end"),
     ("a_long_name_that_comes_again", f"history 1 {'n' * 32} 1;0 finish -> ok;end none;history 1 {'n' * 32} 1;0 finish -> ok;end none",
@@ -59,6 +63,8 @@ REFUSED: List[Tuple[str, str, int, str]] = [
     ("made_by_another", "history 1 t 3;0 create -> made 1;0 create -> made 2;0 start 1 1 -> ok;1 create -> made 3;0 start 2 2 -> ok;2 kill 3 -> ok;2 finish -> ok;"
      "1 finish -> ok;0 finish -> ok;end none", 7, GIVEN),
     ("not_there", "history 1 t 1;0 running 9 -> error no-component;end error", 2, GIVEN),
+    ("made_after_the_start_next_to_a_fifth_argument", f"history 1 t 3;{FIVE.replace(';0 start 1 1 -> ok', ';0 start 1 1 -> ok;0 create -> made 7').rpartition(';')[0]};"
+     "1 start 7 2 6 -> ok;2 finish -> ok;1 finish -> ok;0 finish -> ok;end none", 14, GIVEN),
     ("a_fifth_argument", f"history 1 t 2;{FIVE};1 finish -> ok;0 finish -> ok;end none", 13, ARGUMENTS),
     ("the_1001st_step", f"history 1 t 1;{'0 getverdict -> none;' * 1001}0 finish -> ok;end none", 1002, STEPS),
     ("the_1001st_test_case", ";".join(["history 1 t 1;0 finish -> ok;end none"] * 1001), 3001, CASES_OF_A_SCRIPT),
