@@ -1,6 +1,6 @@
 -- What reports say of a test case, by its history or by its own report: both summaries are the same.
-use Rattle.std.specs.{Prelude.{ℕ, if◌then◌else◌, None, List, [], ◌∷◌, ◌++◌, drop, length, map, reverse, ◌≡◌}, List.{AllZip, flat_map}, Option.option_map_or}
-use Rattle.tc_rules.specs.Prelude.{Comp, Entry, name_in, created, Verdict, comps, is_over, local, overall, IsOneHistory}
+use Rattle.std.specs.{Prelude.{ℕ, if◌then◌else◌, None, List, [], ◌∷◌, ◌++◌, drop, length, map, reverse, ◌≡◌}, List.{AllZip, flat_map}, Option.{option_and_then, option_map_or}}
+use Rattle.tc_rules.specs.Prelude.{Comp, Entry, created, creation, Verdict, comps, is_over, local, overall, IsOneHistory}
 use Rattle.tc_blocks.specs.{Prelude.entries_of, declared.{block.Block.Block, header.Kind.Kind, line.Line.Line}}
 use Rattle.tc_report.specs.{Blocks.{block_names, name_lines}, Cause.cause_of, InWords.namings_of, Said.said_in, Waits.waits_text, declared.{naming.{Names.Names, Naming.Naming}, results.{CampaignEnd.CampaignEnd, CaseEnd.CaseEnd, Finished.Finished, Results.Results}, said.Said.Said, summary.Summary.Summary}}
 
@@ -8,7 +8,7 @@ use Rattle.tc_report.specs.{Blocks.{block_names, name_lines}, Cause.cause_of, In
 -- none; and these of behaviours
 abbrev pub names_in : List Entry → List Naming → Names
 names_in history runs =
-    record { comps = None ∷ flat_map (λ e. option_map_or (λ (c : Comp). name_in e.op ∷ []) (created e.op e.reply) []) history; runs = runs }
+    record { comps = None ∷ flat_map (λ e. option_map_or (λ (c : Comp). option_and_then (λ m. m.1) (creation e.op) ∷ []) (created e.op e.reply) []) history; runs = runs }
 
 -- no names
 abbrev pub no_names : Names

@@ -1,7 +1,7 @@
 -- What the table keeps next to its history determines every reply: two histories that keep the same are answered alike.
 use Rattle.std.{proofs.Common.{ℕ, ◌≡◌, ◌&&◌, ◌||◌, not, Bool, true, false, Option, Some, None, is_some, if◌then◌else◌, List, [], ◌∷◌, length, drop, refl, ap, ◌∙◌}, specs.List.{list_any, list_all}}
 use Rattle.tc_entry.specs.declared.{comp.Comp.Comp, entry.Entry.Entry, op.Op.Op, op.Target.Target, phase.Phase.Phase, reply.Reply.Reply}
-use Rattle.tc_rules.{specs.{Answers.{answer, is_active, is_run_of, plain_answer, wake_reply}, Inside.Words.{is_active_on, local_reply, waits_in_vain}, Faults.{components, fault, names, special_fault, start_fault}, History.{comp_of, comps, ptcs}, Inside.Kept.{run_of, state_of}, Local.local, Phases.{is_excused, last_run, phase}, Status.{alive, done, is_done, is_killed, is_running, killed, running}, Waiting.{holds, is_still, is_stuck, waiting}, declared.awaited.Awaited.Awaited, declared.component_state.ComponentState.ComponentState, declared.run_state.RunState.RunState}, proofs.Lemmas.Keeping.all_exist_same}
+use Rattle.tc_rules.{specs.{Answers.{answer, is_active, is_run_of, plain_answer}, Inside.Words.{wake_reply, is_active_on, local_reply, waits_in_vain}, Faults.{components, fault, names, special_fault, start_fault}, History.{comp_of, comps, ptcs}, Inside.Kept.{run_of, state_of}, Local.local, Phases.{is_excused, last_run, phase}, Status.{alive, done, is_done, is_killed, is_running, killed, running}, Waiting.{holds, is_still, is_stuck, waiting}, declared.awaited.Awaited.Awaited, declared.component_state.ComponentState.ComponentState, declared.run_state.RunState.RunState}, proofs.Lemmas.Keeping.all_exist_same}
 
 -- two histories of which the same is known
 pub record IsSame (p q : List Entry) : Type 0 where

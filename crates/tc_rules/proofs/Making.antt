@@ -1,7 +1,7 @@
 -- What the table keeps is right after an entry that makes a component.
 use Rattle.std.{proofs.{Common.{ℕ, ◌≡◌, ◌+◌, ◌<◌, ◌==◌, ◌&&◌, ◌||◌, if◌then◌else◌, Bool, true, false, Option, Some, None, List, [], ◌∷◌, ◌++◌, length, get_or, refl, ap, subst, sym, ◌∙◌, arith, length-append, below_more, suc, ◌≤◌}, lemmas.Bool.Decides.nat_tests, lemmas.List.get_or_append_left, Math.Seq.get_or-append_seam}}
 use Rattle.tc_entry.specs.{declared.comp.Comp.Comp, declared.entry.Entry.Entry, declared.limits.TheConstants.{COMPONENTS, BEHAVIOURS}, declared.op.Op.Op, declared.reply.Reply.Reply, Prelude.Run}
-use Rattle.tc_rules.{specs.{Answers.answer, Faults.{components, target_names}, History.{add_new, comp_of, comps, created, exists, is_alive_create, is_comp, is_in}, Inside.Words.first_some, Inside.Counts.{made_state, main_state}, Inside.Kept.{IsKept, numbers_from, state_of, blank, run_of}, Inside.Step.{next_local, next_run, next_state}, Phases.{was_halted, was_killed, last_run, phase}, Standing.{Kept, StandsFor}, Status.is_running, Waiting.waiting, Local.local, declared.awaited.Awaited.Awaited, declared.component_state.ComponentState.ComponentState, declared.run_state.RunState.RunState}, proofs.{Lemmas.Deciding.other_comp, Lemmas.Fresh.fresh_step, Lemmas.Keeping.stands_by, Lemmas.Kept.{components_kept, exists_if, exists_unless}, Lemmas.Numbers.numbers_from-more, Lemmas.Over.still_exist, Lemmas.Sound.next, Lemmas.Steps.{run_step, state_step}, Settled.running_not_excused}}
+use Rattle.tc_rules.{specs.{Answers.answer, Faults.{components, target_names}, History.{add_new, comp_of, comps, created, exists, is_comp, is_in}, Inside.Words.{is_alive_create, first_some}, Inside.Counts.{made_state, main_state}, Inside.Kept.{IsKept, numbers_from, state_of, blank, run_of}, Inside.Step.{next_local, next_run, next_state}, Phases.{was_halted, was_killed, last_run, phase}, Standing.{Kept, StandsFor}, Status.is_running, Waiting.waiting, Local.local, declared.awaited.Awaited.Awaited, declared.component_state.ComponentState.ComponentState, declared.run_state.RunState.RunState}, proofs.{Lemmas.Deciding.other_comp, Lemmas.Fresh.fresh_step, Lemmas.Keeping.stands_by, Lemmas.Kept.{components_kept, exists_if, exists_unless}, Lemmas.Numbers.numbers_from-more, Lemmas.Over.still_exist, Lemmas.Sound.next, Lemmas.Steps.{run_step, state_step}, Settled.running_not_excused}}
 
 abbrev create : Run → Bool → Option (List ℕ) → Comp → Entry
 create caller alive name d = record { caller = caller; op = Op.Create alive name; reply = Reply.Made d }

@@ -1,7 +1,7 @@
 -- Which entry decided the verdict of a test case, and who made it.
-use Rattle.std.specs.{Prelude.{ℕ, ◌≡◌, ◌<◌, ◌↔◌, nat_lt, if◌then◌else◌, Option, Some, None, List, [], ◌∷◌, ◌++◌, length}, List.flat_map, Option.option_or}
-use Rattle.tc_entry.specs.{Prelude.{Verdict, level_of, worst}, declared.entry.Entry.Entry, declared.op.Op.Op}
-use Rattle.tc_rules.specs.{History.created, History.is_comp, Local.gives, Local.overall}
+use Rattle.std.specs.{Prelude.{ℕ, ◌≡◌, ◌<◌, ◌↔◌, nat_lt, if◌then◌else◌, Option, Some, None, List, [], ◌∷◌, ◌++◌, length}, List.flat_map, Option.{option_and_then, option_or}}
+use Rattle.tc_entry.specs.{Prelude.{Verdict, level_of, worst}, declared.entry.Entry.Entry}
+use Rattle.tc_rules.specs.{History.created, History.creation, History.is_comp, Local.gives, Local.overall}
 
 -- the entry at this place, counted from 0, decides: the overall verdict is the reported one from this entry on, and not before
 abbrev pub IsDeciding : List Entry → ℕ → Type 0
@@ -18,12 +18,7 @@ deciding [] = None
 deciding (e ∷ past) =
     if nat_lt (level_of (worst_given past)) (level_of (worst_given (e ∷ past))) then Some (length past) else deciding past
 
--- the name that an operation gives
-abbrev pub name_in : Op → Option (List ℕ)
-name_in (Op.Create alive name) = name
-name_in _ = None
-
 -- the name of component c, if its creation gave it one
 abbrev pub component_name : List Entry → ℕ → Option (List ℕ)
 component_name [] c = None
-component_name (e ∷ past) c = option_or (component_name past c) (if is_comp (created e.op e.reply) c then name_in e.op else None)
+component_name (e ∷ past) c = option_or (component_name past c) (if is_comp (created e.op e.reply) c then option_and_then (λ m. m.1) (creation e.op) else None)

@@ -1,7 +1,7 @@
 -- What the past entries of a test case say of its components and runs.
 -- Here and in the files next to it, `past` lists the entries so far, the newest first, and components and runs are
 -- numbers.
-use Rattle.std.specs.{Prelude.{ℕ, ◌==◌, ◌&&◌, ◌||◌, not, if◌then◌else◌, Bool, true, false, Option, Some, None, List, [], ◌∷◌, ◌++◌, drop}, Option.{option_and_then, option_map_or, option_or}}
+use Rattle.std.specs.{Prelude.{ℕ, ◌==◌, ◌&&◌, ◌||◌, not, if◌then◌else◌, Bool, true, false, Option, Some, None, List, [], ◌∷◌, ◌++◌, drop}, List.list_any, Option.{option_and_then, option_map_or, option_or}}
 use Rattle.tc_entry.specs.{Prelude.{Run, is_of, is_ended, is_fault, is_ok}, declared.comp.Comp.Comp, declared.entry.Entry.Entry, declared.op.Op.Op, declared.reply.Reply.Reply}
 
 -- a number is in a list
@@ -18,15 +18,10 @@ abbrev pub created : Op → Reply → Option Comp
 created (Op.Create alive name) (Reply.Made c) = Some c
 created _ _ = None
 
--- the operation is a Create
-abbrev pub is_create : Op → Bool
-is_create (Op.Create alive name) = true
-is_create _ = false
-
--- the operation is a Create of an alive-type component
-abbrev pub is_alive_create : Op → Bool
-is_alive_create (Op.Create alive name) = alive
-is_alive_create _ = false
+-- what an operation creates: a component, alive-type or not, with the name that it gives
+abbrev pub creation : Op → Option (Bool × Option (List ℕ))
+creation (Op.Create alive name) = Some (alive, name)
+creation _ = None
 
 -- what an operation starts: a run, on a component, with arguments
 abbrev pub start : Op → Option (Run × Comp × List Comp)
@@ -79,7 +74,7 @@ exists past c = is_in c (comps past)
 abbrev pub is_alive_type : List Entry → ℕ → Bool
 is_alive_type [] c = false
 is_alive_type (e ∷ past) c =
-    if exists past c then is_alive_type past c else is_comp (created e.op e.reply) c && is_alive_create e.op
+    if exists past c then is_alive_type past c else is_comp (created e.op e.reply) c && option_map_or (λ m. m.0) (creation e.op) false
 
 -- the component that run b is on: that of the first Start of the run
 abbrev pub comp_of : List Entry → ℕ → Option Comp
@@ -108,5 +103,4 @@ kills e c = ends_case e || (not (is_ended e.reply) && is_kill_of e.op c)
 
 -- some entry ended the test case
 abbrev pub is_over : List Entry → Bool
-is_over [] = false
-is_over (e ∷ past) = ends_case e || is_over past
+is_over past = list_any ends_case past

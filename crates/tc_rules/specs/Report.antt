@@ -1,6 +1,6 @@
 -- What a closed case reports: one history of one thread; and why a case was not closed, or has no report.
 use Rattle.std.specs.{Prelude.{ℕ, ◌≡◌, ◌++◌, true, None, List, [], length, reverse, map, filter, sum_by, codes}, List.range_with_len}
-use Rattle.tc_entry.specs.{Prelude.{worst, memory_text}, declared.entry.Entry.Entry}
+use Rattle.tc_entry.specs.{Prelude.{memory_text}, declared.entry.Entry.Entry}
 use Rattle.tc_rules.specs.{History.comp_of, History.comps, History.is_over, Legal.IsAllOver, Legal.IsLegal, Local.local, Local.overall, Merge.is_other, Merge.logs_below, Merge.merge, Merge.part, declared.closed.CloseFault.CloseFault, declared.closed.Closed.Closed, declared.refusal.CaseError.CaseError}
 
 -- The report is one history of one thread. Each reply is the component table's at that point. The logs are the runs'
@@ -28,7 +28,6 @@ pub record IsOneHistory (c : Closed) : Type 0 where
   pub locals : c.locals ≡ map (local (reverse c.history)) (comps (reverse c.history))
   -- the overall verdict, which is the worst of them
   pub verdict : c.verdict ≡ overall (reverse c.history)
-  pub worst_of_locals : c.verdict ≡ worst c.locals
 
 -- why a case has no report, in words
 abbrev pub refusal_text : CaseError → List ℕ

@@ -1,8 +1,8 @@
 //! What one entry says of the case, of a component and of a run.
-ghost use Rattle.std.specs.Prelude.{◌≡◌, ◌||◌};
+ghost use Rattle.std.specs.Prelude.{◌≡◌};
 ghost use Rattle.tc_rules.specs.History as history;
 ghost use Rattle.tc_rules.specs.Laws as laws;
-ghost use Rattle.tc_rules.specs.Inside.Words.{started_run};
+ghost use Rattle.tc_rules.specs.Inside.Words.{is_alive_create, started_run};
 ghost use Rattle.tc_rules.specs.Phases as phases;
 ghost use Rattle.tc_rules.specs.Waiting as waits;
 
@@ -67,26 +67,12 @@ pub fn ends_case(entry: &Entry) -> bool
             || is_kill_of(&entry.op, 0))
 }
 
-/// Whether the operation is a Stop or Kill of the component.
-fn is_end_of(op: &Op, comp: u32) -> bool
-    ensures { result ≡ (history.is_stop_of op.now comp || history.is_kill_of op.now comp) }
-{
-    matches!(op, Op::Stop(group) | Op::Kill(group) if group.is_of(comp))
-}
-
 /// Whether an entry by a run on component own ends its pass.
 #[tactic(auto, unfolding(crate::specs::History::ends_pass))]
 pub fn ends_pass(own: Comp, entry: &Entry) -> bool
     ensures { result ≡ history.ends_pass own entry.now }
 {
-    match entry.reply {
-        Reply::Ended | Reply::Fault(_) => true,
-        _ => {
-            matches!(entry.op, Op::Finish | Op::StopCase)
-                || is_end_of(&entry.op, 0)
-                || is_end_of(&entry.op, own.0)
-        }
-    }
+    entry.reply.is_ended() || halts(Some(own), entry, own.0)
 }
 
 pub(crate) fn kills(entry: &Entry, comp: u32) -> bool
@@ -122,23 +108,14 @@ pub(crate) fn start_in(entry: &Entry, comp: u32) -> Option<Run>
     }
 }
 
-pub(crate) fn awaited(op: &Op) -> Option<Awaited>
-    ensures { result ≡ waits.awaited op.now }
-{
-    match op {
-        Op::Wait { killed, target } | Op::Wake { killed, target } => Some(Awaited {
-            killed: *killed,
-            target: *target,
-        }),
-        _ => None,
-    }
-}
-
 pub(crate) fn parks(op: &Op, reply: Reply) -> Option<Awaited>
     ensures { result ≡ waits.parks op.now reply }
 {
-    match reply {
-        Reply::Parked => awaited(op),
+    match (op, reply) {
+        (Op::Wait { killed, target } | Op::Wake { killed, target }, Reply::Parked) => {
+            let (killed, target) = (*killed, *target);
+            Some(Awaited { killed, target })
+        }
         _ => None,
     }
 }
@@ -175,7 +152,7 @@ pub fn created(op: &Op, reply: Reply) -> Option<Comp>
 
 /// Whether a Create makes an alive-type component.
 pub(crate) fn is_alive_create(op: &Op) -> bool
-    ensures { result ≡ history.is_alive_create op.now }
+    ensures { result ≡ is_alive_create op.now }
 {
     matches!(op, Op::Create { alive: true, .. })
 }

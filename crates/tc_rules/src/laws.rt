@@ -1,8 +1,8 @@
 //! Laws of legal histories, and the worked cases: each function does nothing, and its contract is the law.
-ghost use Rattle.std.specs.Prelude.{◌≡◌, ◌++◌, ◌∷◌, ◌↔◌, ℕ, List, Some, false, map, true};
+ghost use Rattle.std.specs.{Prelude.{◌≡◌, ◌++◌, ◌∷◌, ◌↔◌, ℕ, if◌then◌else◌, List, [], Some, false, map, true}, List.flat_map};
 ghost use Rattle.tc_entry.specs.declared.{comp.Comp.Comp, entry.Entry.Entry, phase.Phase.Phase};
 ghost use Rattle.tc_entry.specs.Prelude.{is_ended, worst};
-ghost use Rattle.tc_rules.specs.{History.comp_of, History.is_over, Inside.WorkedCases.WorkedCases, Laws.unnamed, Laws.verdicts_in, Legal.IsAllOver, Legal.IsLegal, Local.local, Local.overall, Phases.phase, Phases.was_halted, Phases.was_killed, Standing.Kept, Standing.StandsFor};
+ghost use Rattle.tc_rules.specs.{History.comp_of, History.is_comp, History.is_over, Inside.WorkedCases.WorkedCases, Laws.unnamed, Local.gives, Legal.IsAllOver, Legal.IsLegal, Local.local, Local.overall, Phases.phase, Phases.was_halted, Phases.was_killed, Standing.Kept, Standing.StandsFor};
 
 /// After an entry that ends the case no component is alive, and every further call is replied Ended.
 #[tactic(auto, using(crate::proofs::Lemmas::LawsOfHistories::over_for_all))]
@@ -37,7 +37,8 @@ pub fn same_component_later()
 #[tactic(auto, using(crate::proofs::Lemmas::LawsOfHistories::local_of_whole))]
 pub fn local_of_whole()
     ensures { (n : ℕ) (past : List Entry) (c : ℕ) → IsLegal n past
-        → worst (verdicts_in past past c) ≡ local past c }
+        → worst (flat_map (λ e. if is_comp (comp_of past e.caller.0) c then gives e.op e.reply else []) past)
+        ≡ local past c }
 {}
 
 /// A history that a case's state represents is legal.

@@ -9,23 +9,13 @@ use std::alloc::Global;
 use tc_entry::Comp;
 use tc_verdict::{NoMemory, Verdict};
 
-/// The local verdict of a component; none if there is no such component.
-fn local_of(state: &CaseState, comp: u32) -> Verdict
-    ensures { (past : List Entry) → StandsFor state.now past → comp < components past → result ≡ verdicts.local past comp }
-{
-    match state.local(Comp(comp)) {
-        Some(local) => local,
-        None => Verdict::None,
-    }
-}
-
 /// The local verdict of each component of a case of which this state is kept.
 pub fn locals_of(alloc: Global, state: &CaseState) -> Result<Vec<Verdict>, NoMemory>
     ensures { (past : List Entry) → StandsFor state.now past → IfOk result (λ v. v.items ≡ map (verdicts.local past) (comps past)) }
 {
     let mut locals = Vec::new(alloc);
     for comp in 0..state.components() {
-        locals.push(local_of(state, comp))?;
+        locals.push(state.local(Comp(comp)).unwrap_or(Verdict::None))?;
     }
     Ok(locals)
 }

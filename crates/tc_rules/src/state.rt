@@ -1,5 +1,5 @@
 //! What is kept of a test case next to its history.
-ghost use Rattle.std.specs.{Prelude.{◌≡◌, ◌≢◌, ◌<◌, ◌≤◌, [], false, List, IfOk, IfSome, IfNone, OnErr}, Bool.OnTrue, Result.IsOk};
+ghost use Rattle.std.specs.{Prelude.{◌≡◌, ◌≢◌, ◌<◌, ◌≤◌, [], None, List, IfOk, IfSome, IfNone, OnErr}, Bool.OnTrue, Result.IsOk};
 ghost use Rattle.tc_entry.specs.declared.limits.TheConstants.{BEHAVIOURS};
 ghost use Rattle.tc_rules.specs.Standing.{StandsFor, IsReplyOf, TakesIn};
 ghost use Rattle.tc_rules.specs.History as history;
@@ -89,7 +89,7 @@ impl CaseState {
         ensures reply { IfOk result (λ r. IsReplyOf self.old caller op r) }
         ensures stands { IfOk result (λ r. TakesIn self.old (record { caller = caller; op = op; reply = r }) self.new) }
         ensures refused { OnErr result (self.new ≡ self.old) }
-        ensures sure { history.is_create op ≡ false → IsOk result }
+        ensures sure { history.creation op ≡ None → IsOk result }
     {
         let mut entry = Entry {
             caller,
@@ -112,7 +112,7 @@ impl CaseState {
         ensures differs { IfOk result (λ other. IfSome other (λ reply. reply ≢ entry.now.reply)) }
         ensures stays { IfOk result (λ other. IfSome other (λ _. self.new ≡ self.old)) }
         ensures refused { OnErr result (self.new ≡ self.old) }
-        ensures sure { history.is_create entry.now.op ≡ false → IsOk result }
+        ensures sure { history.creation entry.now.op ≡ None → IsOk result }
     {
         let reply = self.would(entry.caller, &entry.op);
         if reply.same(&entry.reply) {

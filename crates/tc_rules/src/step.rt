@@ -100,28 +100,14 @@ pub(crate) enum Scope {
     All,
 }
 
-fn touched_own(own: Option<Comp>) -> Scope
-    ensures { result ≡ step.touched_own own }
-{
-    own.map_or(Scope::Nothing, Scope::One)
-}
-
-fn touched_group(group: Group) -> Scope
-    ensures { result ≡ step.touched_group group }
-{
-    match group {
-        Group::One(comp) => Scope::One(comp),
-        Group::All => Scope::All,
-    }
-}
-
 fn touched_by(own: Option<Comp>, op: &Op) -> Scope
     ensures { result ≡ step.touched_by own op.now }
 {
     match op {
         Op::Start { comp, .. } => Scope::One(*comp),
-        Op::Stop(group) | Op::Kill(group) => touched_group(*group),
-        Op::StopCase | Op::SetVerdict(_) | Op::Finish => touched_own(own),
+        Op::Stop(Group::One(comp)) | Op::Kill(Group::One(comp)) => Scope::One(*comp),
+        Op::Stop(Group::All) | Op::Kill(Group::All) => Scope::All,
+        Op::StopCase | Op::SetVerdict(_) | Op::Finish => own.map_or(Scope::Nothing, Scope::One),
         _ => Scope::Nothing,
     }
 }
@@ -277,12 +263,9 @@ pub(crate) fn take_in_runs(runs: &mut Vec<RunState>, entry: &Entry)
     ensures each { (b : ℕ) → step.IsNextRun entry.now b runs.old.items runs.new.items }
 {
     take_in_run(runs, entry, entry.caller);
-    match started_run(&entry.op) {
-        None => {}
-        Some(run) => {
-            if run.0 != entry.caller.0 {
-                take_in_run(runs, entry, run);
-            }
+    if let Some(run) = started_run(&entry.op) {
+        if run.0 != entry.caller.0 {
+            take_in_run(runs, entry, run);
         }
     }
 }

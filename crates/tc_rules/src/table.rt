@@ -1,5 +1,5 @@
 //! The component table.
-ghost use Rattle.std.specs.{Prelude.{◌≡◌, ◌<◌, ◌≤◌, ◌+◌, ◌++◌, ◌∷◌, [], false, IfOk, OnErr, OnOk}, Bool.OnTrue, Result.IsOk};
+ghost use Rattle.std.specs.{Prelude.{◌≡◌, ◌<◌, ◌≤◌, ◌+◌, ◌++◌, ◌∷◌, [], None, IfOk, OnErr, OnOk}, Bool.OnTrue, Result.IsOk};
 ghost use Rattle.tc_entry.specs.declared.limits.TheConstants.{BEHAVIOURS};
 ghost use Rattle.tc_rules.specs.Standing.{past_of};
 ghost use Rattle.tc_rules.specs.History as history;
@@ -86,7 +86,7 @@ impl Table {
         ensures room { OnOk result (self.old.room ≤ self.new.room + 1) }
         ensures refused { OnErr result (self.new.history ≡ self.old.history) }
         ensures refused_room { OnErr result (self.old.room ≤ self.new.room) }
-        ensures sure { 0 < self.old.room → history.is_create op ≡ false → IsOk result }
+        ensures sure { 0 < self.old.room → history.creation op ≡ None → IsOk result }
     {
         let reply = self.state.would(caller, &op);
         let entry = Entry { caller, op, reply };

@@ -1,7 +1,7 @@
 -- A component that is not yet made, after one more entry.
 use Rattle.std.proofs.Common.{ℕ, ◌≡◌, ◌&&◌, Bool, true, false, Option, None, List, ◌∷◌, refl, ap}
 use Rattle.tc_entry.specs.{Prelude.{Run, worst, Verdict}, declared.entry.Entry.Entry, declared.phase.Phase.Phase}
-use Rattle.tc_rules.{specs.{History.{comp_of, created, exists, is_alive_create, is_alive_type, is_comp}, Inside.Counts.made_state, Inside.Kept.{blank, state_of}, Local.{local, verdicts_of}, Phases.{last_run, phase, start_in, was_halted, was_killed}}, proofs.Lemmas.Steps.phase_by}
+use Rattle.tc_rules.{specs.{Inside.Words.is_alive_create, History.{comp_of, created, exists, is_alive_type, is_comp}, Inside.Counts.made_state, Inside.Kept.{blank, state_of}, Local.{local, verdicts_of}, Phases.{last_run, phase, start_in, was_halted, was_killed}}, proofs.Lemmas.Steps.phase_by}
 
 not_killed_if : (k : Bool) (r : Option Run) (h a : Bool) → phase_by k r h a ≡ Phase.Inactive → k ≡ false
 not_killed_if true r h a e = cc

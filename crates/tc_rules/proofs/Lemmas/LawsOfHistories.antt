@@ -1,7 +1,8 @@
 -- Facts on legal histories.
+use Rattle.std.specs.List.{flat_map}
 use Rattle.std.proofs.{Common.{ℕ, ◌≡◌, if◌then◌else◌, Bool, true, false, Option, Some, None, is_some, List, [], ◌∷◌, ◌++◌, refl, ap, sym, ◌∙◌, append_assoc, arith}, lemmas.Bool.Decides.nat_tests}
 use Rattle.tc_entry.specs.{Prelude.{Verdict, worst, is_ended}, declared.comp.Comp.Comp, declared.entry.Entry.Entry, declared.op.Op.Op, declared.phase.Phase.Phase, declared.reply.Reply.Reply}
-use Rattle.tc_rules.{specs.{Answers.{answer, is_active, is_run_of, plain_answer}, Inside.Words.{answer_unless, is_active_on, RunsNow}, Faults.fault, History.{comp_of, exists, halts, is_comp, is_over, kills}, Laws.verdicts_in, Legal.{IsAllOver, IsLegal}, Local.{gives, local, verdicts_of}, Phases.{phase, start_in, was_halted, was_killed}}, proofs.{Lemmas.Keeping.{halted_by, kill_halts}, Lemmas.Over.all_over, Lemmas.Sound.starts}}
+use Rattle.tc_rules.{specs.{Answers.{answer, is_active, is_run_of, plain_answer}, Inside.Words.{answer_unless, is_active_on, RunsNow}, Faults.fault, History.{comp_of, exists, halts, is_comp, is_over, kills}, Legal.{IsAllOver, IsLegal}, Local.{gives, local, verdicts_of}, Phases.{phase, start_in, was_halted, was_killed}}, proofs.{Lemmas.Keeping.{halted_by, kill_halts}, Lemmas.Over.all_over, Lemmas.Sound.starts}}
 
 pub over_for_all : (n : ℕ) (past : List Entry) → IsLegal n past → is_over past ≡ true → IsAllOver n past
 over_for_all = all_over
@@ -63,6 +64,10 @@ none_given false false given vs ws g e = e
 given_if : (t : Bool) (given vs : List Verdict) → (if t then given else []) ++ vs ≡ (if t then given ++ vs else vs)
 given_if true given vs = refl
 given_if false given vs = refl
+
+-- the verdicts given to component c by runs that are on it in the whole history
+abbrev verdicts_in : List Entry → List Entry → ℕ → List Verdict
+verdicts_in whole past c = flat_map (λ e. if is_comp (comp_of whole e.caller.0) c then gives e.op e.reply else []) past
 
 same_verdicts : (n : ℕ) (past later : List Entry) (c : ℕ) → IsLegal n past → verdicts_in (later ++ past) past c ≡ verdicts_of past c
 same_verdicts n [] later c legal = refl

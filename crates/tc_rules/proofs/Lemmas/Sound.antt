@@ -1,7 +1,7 @@
 -- What an entry with the right reply says.
 use Rattle.std.proofs.{Common.{ℕ, ◌≡◌, ◌<◌, ◌==◌, ◌&&◌, ◌||◌, not, nat_le, if◌then◌else◌, Bool, true, false, Option, Some, None, is_some, List, ◌∷◌, refl, ap, subst, sym, ◌∙◌, arith}, lemmas.Bool.Decides.nat_tests}
 use Rattle.tc_entry.specs.{declared.comp.Comp.Comp, declared.entry.Entry.Entry, declared.limits.TheConstants.COMPONENTS, declared.op.Op.Op, declared.reply.Fault.Fault, declared.reply.Reply.Reply, Prelude.{Run, is_ended, is_fault, is_ok}}
-use Rattle.tc_rules.{specs.{Answers.{answer, is_active, plain_answer}, Inside.Words.{answer_unless, asks_many, starts_on, starts_run}, Faults.{all_exist, components, fault, names, special_fault, start_fault, target_names}, History.{comp_of, created, exists, is_alive_create, is_alive_type, kills}, Phases.{last_run, phase, start_in, was_halted, was_killed}, Status.{is_killed, is_running}, Waiting.{awaited, parks}, declared.awaited.Awaited.Awaited}, proofs.{Lemmas.Deciding.{and_left, equal_if, ok_is, self_equal, test_by}, Lemmas.Kept.all_exist_more, Lemmas.Steps.phase_by}}
+use Rattle.tc_rules.{specs.{Answers.{answer, is_active, plain_answer}, Inside.Words.{is_alive_create, answer_unless, asks_many, starts_on, starts_run}, Faults.{all_exist, components, fault, names, special_fault, start_fault, target_names}, History.{comp_of, created, exists, is_alive_type, kills}, Phases.{last_run, phase, start_in, was_halted, was_killed}, Status.{is_killed, is_running}, Waiting.{awaited, parks}, declared.awaited.Awaited.Awaited}, proofs.{Lemmas.Deciding.{and_left, equal_if, ok_is, self_equal, test_by}, Lemmas.Kept.all_exist_more, Lemmas.Steps.phase_by}}
 
 -- the call was made by a run that is active, and is no error
 pub record IsPlain (n : ℕ) (past : List Entry) (b : ℕ) (op : Op) (reply : Reply) : Type 0 where

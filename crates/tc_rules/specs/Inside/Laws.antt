@@ -1,7 +1,7 @@
 -- What one entry does to the runs of a legal history. Proofs of this crate, and of those that use it, cite these laws.
-use Rattle.std.specs.Prelude.{ℕ, ◌≡◌, ◌&&◌, ◌||◌, not, Bool, true, false, List, ◌∷◌}
+use Rattle.std.specs.Prelude.{ℕ, ◌≡◌, ◌&&◌, ◌||◌, not, Bool, true, false, is_some, List, ◌∷◌}
 use Rattle.tc_entry.specs.{declared.entry.Entry.Entry, declared.op.Op.Op, declared.op.Target.Target, declared.reply.Reply.Reply, Prelude.is_fault}
-use Rattle.tc_rules.specs.{Answers.answer, History.comp_of, History.halts, History.is_over}
+use Rattle.tc_rules.specs.{Answers.answer, History.comp_of, History.is_over, History.start}
 
 -- the operation is one that halts components if it is no error
 abbrev pub halting_op : Op → Bool
@@ -13,8 +13,7 @@ halting_op _ = false
 
 -- the operation starts, halts and kills nothing
 abbrev pub keeps_phases : Op → Bool
-keeps_phases (Op.Start c run args) = false
-keeps_phases op = not (halting_op op)
+keeps_phases op = not (halting_op op || is_some (start op))
 
 -- after this reply the caller continues
 abbrev pub lets_go_on : Reply → Bool

@@ -13,15 +13,15 @@ use tc_verdict::{NoMemory, Run, UserVerdict};
 
 #[tactic(auto, using(crate::proofs::Lemmas::Kept::kept_rules, crate::proofs::Settled::settled_rules), unfolding(crate::specs::Standing::StandsFor))]
 impl CaseState {
-    /// Takes in an entry that makes no component, by a run on component own.
+    /// Takes in an entry that makes no component.
     #[inline(always)]
-    pub(crate) fn add(&mut self, own: Option<Comp>, entry: &Entry)
+    pub(crate) fn add(&mut self, entry: &Entry)
         requires legal { IsReplyOf self.old entry.now.caller entry.now.op entry.now.reply }
-        requires on { (past : List Entry) → StandsFor self.old past → own ≡ history.comp_of past entry.now.caller.0 }
         requires makes_none { history.created entry.now.op entry.now.reply ≡ None }
         ensures behaviours { self.new.behaviours ≡ self.old.behaviours }
         ensures stands { TakesIn self.old entry.now self.new }
     {
+        let own = self.comp_of(entry.caller);
         take_in(&mut self.states, own, entry);
         take_in_runs(&mut self.runs, entry);
         self.over |= ends_case(entry);
@@ -52,18 +52,6 @@ impl CaseState {
         Ok(())
     }
 
-    /// Takes in an entry that makes no component.
-    #[inline(always)]
-    fn add_plain(&mut self, entry: &Entry)
-        requires legal { IsReplyOf self.old entry.now.caller entry.now.op entry.now.reply }
-        requires makes_none { history.created entry.now.op entry.now.reply ≡ None }
-        ensures behaviours { self.new.behaviours ≡ self.old.behaviours }
-        ensures stands { TakesIn self.old entry.now self.new }
-    {
-        let own = self.comp_of(entry.caller);
-        self.add(own, entry);
-    }
-
     /// Takes in an entry with the reply that is the answer to it, which may change components. If memory runs out, the
     /// state stays as it was.
     #[inline(never)]
@@ -72,11 +60,11 @@ impl CaseState {
         ensures behaviours { self.new.behaviours ≡ self.old.behaviours }
         ensures stands { OnOk result (TakesIn self.old entry.now self.new) }
         ensures refused { OnErr result (self.new ≡ self.old) }
-        ensures sure { history.is_create entry.now.op ≡ false → IsOk result }
+        ensures sure { history.creation entry.now.op ≡ None → IsOk result }
     {
         match created(&entry.op, entry.reply) {
             None => {
-                self.add_plain(entry);
+                self.add(entry);
                 Ok(())
             }
             Some(comp) => self.make(entry, comp),
@@ -90,7 +78,7 @@ impl CaseState {
         ensures behaviours { self.new.behaviours ≡ self.old.behaviours }
         ensures stands { TakesIn self.old (record { caller = caller; op = Op.SetVerdict setting; reply = Reply.Ok }) self.new }
     {
-        self.add_plain(&Entry {
+        self.add(&Entry {
             caller,
             op: Op::SetVerdict(setting),
             reply: Reply::Ok,
@@ -104,7 +92,7 @@ impl CaseState {
         ensures behaviours { self.new.behaviours ≡ self.old.behaviours }
         ensures stands { TakesIn self.old (record { caller = caller; op = Op.Stop group; reply = Reply.Ok }) self.new }
     {
-        self.add_plain(&Entry {
+        self.add(&Entry {
             caller,
             op: Op::Stop(group),
             reply: Reply::Ok,
@@ -118,7 +106,7 @@ impl CaseState {
         ensures behaviours { self.new.behaviours ≡ self.old.behaviours }
         ensures stands { TakesIn self.old (record { caller = caller; op = Op.Kill group; reply = Reply.Ok }) self.new }
     {
-        self.add_plain(&Entry {
+        self.add(&Entry {
             caller,
             op: Op::Kill(group),
             reply: Reply::Ok,
@@ -132,7 +120,7 @@ impl CaseState {
         ensures behaviours { self.new.behaviours ≡ self.old.behaviours }
         ensures stands { OnOk result (TakesIn self.old entry.now self.new) }
         ensures refused { OnErr result (self.new ≡ self.old) }
-        ensures sure { history.is_create entry.now.op ≡ false → IsOk result }
+        ensures sure { history.creation entry.now.op ≡ None → IsOk result }
     {
         if asks(&entry.op) && !entry.reply.is_fault() {
             self.ask(entry);

@@ -14,21 +14,6 @@ use tc_verdict::Run;
 
 #[tactic(auto, using(crate::proofs::Lemmas::Kept::kept_rules), unfolding(crate::specs::Standing::StandsFor))]
 impl CaseState {
-    /// The reply to a wake.
-    #[tactic(auto, using(crate::proofs::Lemmas::Kept::kept_rules, crate::proofs::Lemmas::Kept::wait_rules), unfolding(crate::specs::Standing::StandsFor))]
-    pub(crate) fn wake_reply(&self, caller: Run, awaited: Awaited) -> Reply
-        requires { tests.all_below (faults.target_names awaited.target) (length self.now.states) ≡ true }
-        ensures { (past : List Entry) → StandsFor self.now past → result ≡ answers.wake_reply past caller.0 awaited }
-    {
-        if self.holds(awaited) {
-            Reply::Matched
-        } else if caller.0 == 0 && self.is_stuck() {
-            Reply::Fault(Fault::Stuck)
-        } else {
-            Reply::Parked
-        }
-    }
-
     /// The reply to a call that is no error, by a run on component own.
     #[tactic(auto, using(crate::proofs::Lemmas::Kept::kept_rules, crate::proofs::Lemmas::Kept::wait_rules), unfolding(crate::specs::Standing::StandsFor))]
     #[inline(always)]
@@ -44,16 +29,15 @@ impl CaseState {
             Op::Alive(target) => Reply::Answer(self.alive(*target)),
             Op::Done(target) => Reply::Answer(self.done(*target)),
             Op::Killed(target) => Reply::Answer(self.killed(*target)),
-            Op::Wait { killed, target } => {
+            Op::Wait { killed, target } | Op::Wake { killed, target } => {
                 let (killed, target) = (*killed, *target);
-                match self.holds(Awaited { killed, target }) {
-                    true => Reply::Matched,
-                    false => Reply::Parked,
+                if self.holds(Awaited { killed, target }) {
+                    Reply::Matched
+                } else if matches!(op, Op::Wake { .. }) && caller.0 == 0 && self.is_stuck() {
+                    Reply::Fault(Fault::Stuck)
+                } else {
+                    Reply::Parked
                 }
-            }
-            Op::Wake { killed, target } => {
-                let (killed, target) = (*killed, *target);
-                self.wake_reply(caller, Awaited { killed, target })
             }
             Op::GetVerdict => Reply::Local(self.states.get(own.0 as usize).local),
             Op::Start { .. }

@@ -13,34 +13,19 @@ use tc_verdict::Run;
 
 #[tactic(auto, using(crate::proofs::Lemmas::Kept::kept_rules, crate::proofs::Lemmas::Kept::below_rules), unfolding(crate::specs::Standing::StandsFor))]
 impl CaseState {
-    /// Whether all these components exist.
-    pub(crate) fn all_exist(&self, comps: &[Comp]) -> bool
-        ensures { result ≡ tests.all_below comps.now (length self.now.states) }
-    {
-        all_below(comps, self.states.as_slice().len())
-    }
-
     /// Whether all components that the call names exist.
     #[inline(always)]
     pub(crate) fn names_exist(&self, op: &Op) -> bool
         ensures { result ≡ tests.all_below (faults.names op.now) (length self.now.states) }
     {
         match op {
-            Op::Start { comp, args, .. } => self.exists(*comp) && self.all_exist(args.as_slice()),
+            Op::Start { comp, args, .. } => {
+                self.exists(*comp) && all_below(args.as_slice(), self.states.as_slice().len())
+            }
             _ => match target_of(op) {
-                Some(target) => self.target_exists(target),
-                None => true,
+                Some(Target::One(comp)) => self.exists(comp),
+                Some(Target::Any | Target::All) | None => true,
             },
-        }
-    }
-
-    #[inline(always)]
-    pub(crate) fn target_exists(&self, target: Target) -> bool
-        ensures { result ≡ tests.all_below (faults.target_names target) (length self.now.states) }
-    {
-        match target {
-            Target::One(comp) => self.exists(comp),
-            Target::Any | Target::All => true,
         }
     }
 
@@ -87,22 +72,14 @@ impl CaseState {
     }
 }
 
-fn group_target(group: Group) -> Target
-    ensures { result ≡ faults.group_target group }
-{
-    match group {
-        Group::One(comp) => Target::One(comp),
-        Group::All => Target::All,
-    }
-}
-
 /// The target of a call that has one.
 #[inline(always)]
 fn target_of(op: &Op) -> Option<Target>
     ensures { result ≡ faults.target_of op.now }
 {
     match op {
-        Op::Stop(group) | Op::Kill(group) => Some(group_target(*group)),
+        Op::Stop(Group::One(comp)) | Op::Kill(Group::One(comp)) => Some(Target::One(*comp)),
+        Op::Stop(Group::All) | Op::Kill(Group::All) => Some(Target::All),
         Op::Running(target) | Op::Alive(target) | Op::Done(target) | Op::Killed(target) => Some(
             *target,
         ),

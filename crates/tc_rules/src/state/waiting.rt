@@ -9,6 +9,7 @@ ghost use Rattle.tc_rules.specs.Answers as answers;
 ghost use Rattle.tc_rules.specs.Inside.States as tests;
 
 use crate::awaited::Awaited;
+use crate::run_state::RunState;
 use crate::state::CaseState;
 use tc_entry::{Comp, Phase};
 use tc_verdict::Run;
@@ -59,28 +60,21 @@ impl CaseState {
         self.runs.get(run.0 as usize)?.waiting
     }
 
-    /// Whether a run waits for what has not come.
-    #[tactic(auto, using(crate::proofs::Lemmas::Kept::kept_rules, crate::proofs::Lemmas::Kept::wait_rules), unfolding(crate::specs::Standing::StandsFor))]
-    pub(crate) fn waits_in_vain(&self, run: Run) -> bool
-        ensures { (past : List Entry) → StandsFor self.now past → result ≡ waits_in_vain past (waits.waiting past run.0) }
-    {
-        let runs = self.runs.as_slice();
-        if (run.0 as usize) < runs.len() {
-            match runs[run.0 as usize].waiting {
-                Some(awaited) => !self.holds(awaited),
-                None => false,
-            }
-        } else {
-            false
-        }
-    }
-
     /// Whether a run is active, and does not wait in vain.
     #[tactic(auto, using(crate::proofs::Lemmas::Kept::kept_rules, crate::proofs::Lemmas::Kept::wait_rules), unfolding(crate::specs::Inside::States::goes_on, crate::specs::Standing::StandsFor))]
     pub(crate) fn goes_on(&self, run: Run) -> bool
         ensures { (past : List Entry) → StandsFor self.now past → result ≡ tests.goes_on past run.0 }
     {
-        self.is_active(run) && !self.waits_in_vain(run)
+        self.is_active(run)
+            && match self.runs.get(run.0 as usize) {
+                Some(
+                    RunState {
+                        waiting: Some(awaited),
+                        ..
+                    },
+                ) => self.holds(*awaited),
+                _ => true,
+            }
     }
 
     /// Whether every run that is active waits in vain.

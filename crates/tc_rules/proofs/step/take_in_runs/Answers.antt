@@ -2,9 +2,9 @@ use Rattle.std.proofs.Common.{sym}
 use Rattle.tc_rules.proofs.Runs.{caller_changed, two_changed, none_started, caller_started}
 use Rattle.tc_rules.proofs.step.take_in_runs.Goals as goal
 
-pub returns-in-None-clause-each : goal.returns-in-None-clause-each
-returns-in-None-clause-each c =
-    caller_changed c.args.entry.now c.args.runs.now.items c.take_in_run.new.runs.items (none_started c.args.entry.now (sym c.in-None.ensures)) c.take_in_run.ensures.at c.take_in_run.ensures.others
+pub returns-in_default-clause-each : goal.returns-in_default-clause-each
+returns-in_default-clause-each c =
+    caller_changed c.args.entry.now c.args.runs.now.items c.take_in_run.new.runs.items (none_started c.args.entry.now (sym c.in_default.ensures)) c.take_in_run.ensures.at c.take_in_run.ensures.others
 
 pub returns-then-run-entry-clause-each : goal.returns-then-run-entry-clause-each
 returns-then-run-entry-clause-each c =

@@ -1,5 +1,5 @@
 use Rattle.std.proofs.{Common.{◌≡◌, ◌++◌, ◌∷◌, [], arith}, lemmas.Grind.common_steps}
-use Rattle.tc_rules.{specs.{History.is_alive_create, Inside.Counts.made_state, Standing.StandsFor}, proofs.{Lemmas.Keeping.stands_by, Making.makes_entry}}
+use Rattle.tc_rules.{specs.{Inside.Words.is_alive_create, Inside.Counts.made_state, Standing.StandsFor}, proofs.{Lemmas.Keeping.stands_by, Making.makes_entry}}
 use Rattle.tc_rules.proofs.state.CaseState.make.Goals as goal
 
 pub invariant_of-self-2 : goal.invariant_of-self-2
