@@ -4,7 +4,7 @@ use mathlib.Core.Option.{some, some-injective, some-ne-none}
 use lib.ListN.{get_elem?}
 use Rattle.atomic_table.{specs.{Table.{opening, Splits}, Seated.TableId}, proofs.Lists.{at_longer, at_set, set_here, at_last}}
 use Rattle.tc_verdict.specs.declared.user_verdict.UserVerdict.TheVariants.{None}
-use Rattle.tc_board.{specs.{Answers.FindsWorst, Board.{first_answers, first_record, first_records, new_hand, new_hands}, Hand.HandView, Inside.Seats.{answers_of, first_lists, hand_view, keeper_view, left_over, list, opening_view, split_off}, Inside.Steps.Seated, Inside.Table.{Holds, Knows, Row, Stands, record_of, row}, Rule.{AnswersAgree, Fits, word_of}, declared.answer.Answer.Answer, declared.answer.Answer.TheVariants.Met, declared.answer.AnswerList.AnswerList, declared.record.Record.Record, declared.rule.View.View}, proofs.{Answers.NeverShut, Lookup.{at_end, at_length}, Rows.{hand_knows, lists_stand, same_records, stands_on, stays_at, still_knows, words_stay}}}
+use Rattle.tc_board.{specs.{Answers.FindsWorst, Board.{first_answers, new_hand, new_hands}, Hand.HandView, Inside.Seats.{answers_of, first_lists, first_record, first_records, hand_view, keeper_view, left_over, list, opening_view, split_off}, Inside.Steps.Seated, Inside.Table.{Holds, Knows, Row, Stands, record_of, row}, Rule.{AnswersAgree, Fits, word_of}, declared.answer.Answer.Answer, declared.answer.Answer.TheVariants.Met, declared.answer.AnswerList.AnswerList, declared.record.Record.{Record, TheVariants.{Open, Unbegun}}, declared.rule.View.View}, proofs.{Answers.NeverShut, Lookup.{at_end, at_length}, Rows.{hand_knows, lists_stand, same_records, stands_on, stays_at, still_knows, words_stay}}}
 
 first_rows : ℕ → ℕ → List Row
 first_rows k zero = []
@@ -28,6 +28,15 @@ records_of_rows : (k n : ℕ) → first_records k n ≡ map record_of (first_row
 unfolding first_rows
 records_of_rows k zero = refl
 records_of_rows k (suc n) = ap (λ l. first_record k ∷ l) (records_of_rows (suc k) n)
+
+unbegun_from : (k n : ℕ) → first_records (suc k) n ≡ replicate n Unbegun
+unbegun_from k zero = refl
+unbegun_from k (suc n) = ap (λ l. Unbegun ∷ l) (unbegun_from (suc k) n)
+
+-- the first record of a new board is open, the others are unbegun
+first_open : (n : ℕ) → first_records 0 n ≡ set (replicate n Unbegun) 0 (Open None)
+first_open zero = refl
+first_open (suc n) = ap (λ l. Open None ∷ l) (unbegun_from 0 n)
 
 first_agrees : (k : ℕ) → AnswersAgree (first_record k) (first_answers k)
 first_agrees zero = (never_shut, finds)
@@ -57,7 +66,7 @@ keeper_knows : (n : ℕ) → Knows (first_rows 0 n) 0 0 (opening_view n)
 keeper_knows n = record {
   lists = λ p l e. let f = list_at 0 n p l e in let is : 0 + p ≡ p = omega arith in
       (first_record (0 + p), subst (λ (y : AnswerList). get_elem? (first_rows 0 n) y.run ≡ some (row (first_record (0 + p)) y.answers 0)) (sym f.0) (ap (get_elem? (first_rows 0 n)) is ∙ f.1));
-  records = λ _. (refl, records_of_rows 0 n);
+  records = λ _. (refl, sym (first_open n) ∙ records_of_rows 0 n);
 }
 
 row_stands : (k n p : ℕ) (r : Row) → get_elem? (first_rows k n) p ≡ some r → (r.seat ≡ 0) × (get_elem? (first_lists k n) p ≡ some (list (k + p) r.answers))
@@ -162,8 +171,8 @@ length-first : (k n : ℕ) → length (first_records k n) ≡ n
 length-first k zero = refl
 length-first k (suc n) = ap suc (length-first (suc k) n)
 
-pub keeper_shape : (n words : ℕ) (lists : List AnswerList) (me : Seated) → me ≡ (keeper_view (first_records 0 n) lists, []) → words ≡ n → (me ≡ (keeper_view me.0.records me.0.lists, [])) × (length me.0.records ≡ words)
-keeper_shape n words lists me is same = subst (λ (m : Seated). (m ≡ (keeper_view m.0.records m.0.lists, [])) × (length m.0.records ≡ words)) (sym is) (refl, length-first 0 n ∙ sym same)
+pub keeper_shape : (n words : ℕ) (lists : List AnswerList) (me : Seated) → me ≡ (keeper_view (set (replicate n Unbegun) 0 (Open None)) lists, []) → words ≡ n → (me ≡ (keeper_view me.0.records me.0.lists, [])) × (length me.0.records ≡ words)
+keeper_shape n words lists me is same = subst (λ (m : Seated). (m ≡ (keeper_view m.0.records m.0.lists, [])) × (length m.0.records ≡ words)) (sym is) (refl, ap length (sym (first_open n)) ∙ (length-first 0 n ∙ sym same))
 
 new_hands-end : (board : TableId) (k n : ℕ) → new_hands board k n ++ new_hand board (k + n) ∷ [] ≡ new_hands board k (suc n)
 new_hands-end board k zero = let is : k + 0 ≡ k = omega arith in ap (λ i. new_hand board i ∷ []) is

@@ -1,8 +1,8 @@
 -- The numbers in the words.
-use Rattle.std.{proofs.{Common.{◌≡◌, ℕ, zero, suc, ◌+◌, ◌<◌, ◌==◌, if◌then◌else◌, nat_lt, true, false, Some, IfSome, refl, sym, ap, ◌∙◌, arith, max, bit_or}, lemmas.Bool.Decides.nat_tests}, specs.Prelude.{Option, None as nothing}}
+use Rattle.std.{proofs.{Common.{◌≡◌, ℕ, zero, suc, ◌+◌, ◌<◌, ◌==◌, if◌then◌else◌, nat_lt, true, false, Some, IfSome, refl, sym, ap, ◌∙◌, arith, max, bit_or}, lemmas.Bool.Decides.nat_tests}, specs.{Prelude.{Option, None as nothing}, Option.option_map_or}}
 use Rattle.tc_entry.specs.Prelude.{Verdict, UserVerdict, level_of, worse, given}
-use Rattle.tc_verdict.{specs.declared.user_verdict.UserVerdict.TheVariants.{None, Pass, Inconc, Fail}, proofs.Lemmas.Order.level-worse}
-use Rattle.tc_board.specs.{Hand.answer_to_get, Inside.Steps.get_answer, Inside.Steps.set_answer, Inside.Steps.verdict_of, declared.answer.Answer.TheVariants.Found, declared.answer.Answer.TheVariants.Shut, declared.answer.Answer.TheVariants.Taken}
+use Rattle.tc_verdict.{specs.declared.user_verdict.UserVerdict.TheVariants.{None}, proofs.Lemmas.Order.level-worse}
+use Rattle.tc_board.specs.{Inside.Steps.get_answer, Inside.Steps.set_answer, Inside.Steps.verdict_of, declared.answer.Answer.TheVariants.Found, declared.answer.Answer.TheVariants.Shut, declared.answer.Answer.TheVariants.Taken}
 
 pub verdict_of-rank : (v : UserVerdict) → verdict_of (level_of (given v)) ≡ v
 verdict_of-rank None = refl
@@ -68,7 +68,7 @@ read_some n r less only = only (verdict_of n) (ranked n less)
     ranked (suc (suc (suc (suc n)))) less = absurd (omega arith)
 
 -- and of any number the answer of a get
-pub read_answer : (n : ℕ) (r : Option UserVerdict) → IfSome r (λ v. level_of (given v) ≡ n) → ((v : UserVerdict) → level_of (given v) ≡ n → r ≡ Some v) → answer_to_get r ≡ get_answer n
+pub read_answer : (n : ℕ) (r : Option UserVerdict) → IfSome r (λ v. level_of (given v) ≡ n) → ((v : UserVerdict) → level_of (given v) ≡ n → r ≡ Some v) → option_map_or Found r Shut ≡ get_answer n
 read_answer n nothing ranked only = sym (ap (λ b. if b then Found (verdict_of n) else Shut) (is (nat_lt n 4) refl))
   where
     is : (t : _) → nat_lt n 4 ≡ t → t ≡ false

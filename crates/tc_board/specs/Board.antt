@@ -1,23 +1,13 @@
 -- A new board: the word of run 0 is open with none and its hand has met it, every other word is unbegun.
-use Rattle.std.specs.Prelude.{ℕ, zero, suc, List, [], ◌∷◌}
+use Rattle.std.specs.Prelude.{ℕ, zero, suc, List, [], ◌∷◌, replicate, slice_set}
 use Rattle.atomic_table.specs.Seated.{TableId}
 use Rattle.tc_entry.specs.Prelude.{UserVerdict}
-use Rattle.tc_board.specs.{Hand.HandView, Keeper.KeeperView, declared.answer.Answer.Answer, declared.answer.Answer.TheVariants.Met, declared.record.Record.Record, declared.record.Record.TheVariants.Open, declared.record.Record.TheVariants.Unbegun}
+use Rattle.tc_board.specs.{Hand.HandView, Keeper.KeeperView, declared.answer.Answer.Answer, declared.answer.Answer.TheVariants.Met, declared.record.Record.TheVariants.Open, declared.record.Record.TheVariants.Unbegun}
 
 -- the first answers of the hand of a run
 abbrev pub first_answers : ℕ → List Answer
 first_answers zero = Met ∷ []
 first_answers (suc run) = []
-
--- the first record of the word of a run
-abbrev pub first_record : ℕ → Record
-first_record zero = Open UserVerdict.None
-first_record (suc run) = Unbegun
-
--- the records of n words, from this run on
-abbrev pub first_records : ℕ → ℕ → List Record
-first_records run zero = []
-first_records run (suc n) = first_record run ∷ first_records (suc run) n
 
 -- the hand of a run
 abbrev pub new_hand : TableId → ℕ → HandView
@@ -30,4 +20,4 @@ new_hands board run (suc n) = new_hand board run ∷ new_hands board (suc run) n
 
 -- the keeper of n words
 abbrev pub new_keeper : TableId → ℕ → KeeperView
-new_keeper board n = record { board = board; records = first_records 0 n; gathered = [] }
+new_keeper board n = record { board = board; records = slice_set (replicate n Unbegun) 0 (Open UserVerdict.None); gathered = [] }

@@ -1,5 +1,5 @@
 -- What contracts see of a hand, and what a call adds to its answers.
-use Rattle.std.specs.Prelude.{ℕ, Option, Some, None, List, [], ◌∷◌, ◌++◌}
+use Rattle.std.specs.Prelude.{ℕ, List, [], ◌∷◌, ◌++◌}
 use Rattle.atomic_table.specs.Seated.{TableId}
 use Rattle.tc_entry.specs.Prelude.{UserVerdict}
 use Rattle.tc_board.specs.declared.{answer.Answer.Answer, hand.Said.Said, hand.Said.TheVariants.Closed, hand.Said.TheVariants.Taken}
@@ -14,11 +14,6 @@ pub record HandView : Type 0 where
 abbrev pub answer_to_set : UserVerdict → Said → Answer
 answer_to_set v Taken = Answer.Taken v
 answer_to_set v Closed = Answer.Shut
-
--- the answer to a get
-abbrev pub answer_to_get : Option UserVerdict → Answer
-answer_to_get (Some v) = Answer.Found v
-answer_to_get None = Answer.Shut
 
 -- the hand with one more answer
 abbrev pub answered : HandView → Answer → HandView

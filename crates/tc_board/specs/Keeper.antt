@@ -1,10 +1,9 @@
 -- What contracts see of the keeper, and what its calls change.
 use Rattle.std.specs.Prelude.{◌≡◌, ℕ, Option, Some, slice_get, slice_set, List, [], ◌∷◌, ◌++◌}
-use Rattle.std.specs.Prelude as prelude
 use Rattle.atomic_table.specs.Seated.{TableId}
 use Rattle.tc_entry.specs.Prelude.{UserVerdict}
 use Rattle.tc_verdict.specs.declared.user_verdict.UserVerdict.TheVariants.{None}
-use Rattle.tc_board.specs.{Hand.HandView, declared.{answer.AnswerList.AnswerList, record.Record.{Record, TheVariants.{Closed, Open, Unbegun}}}}
+use Rattle.tc_board.specs.{Hand.HandView, declared.{answer.AnswerList.AnswerList, record.Record.{Record, TheVariants.{Closed, Open}}}}
 
 -- its board, what it did with each word, and the answers of the hands that it took back
 pub record KeeperView : Type 0 where
@@ -20,8 +19,7 @@ IsOpen records run = (carried : UserVerdict) × (slice_get records run ≡ Some 
 abbrev pub carried_in : Option Record → UserVerdict
 carried_in (Some (Open carried)) = carried
 carried_in (Some (Closed carried counted)) = carried
-carried_in (Some Unbegun) = None
-carried_in prelude.None = None
+carried_in _ = None
 
 -- the verdict that the word of this run was begun with
 abbrev pub carried_by : List Record → ℕ → UserVerdict

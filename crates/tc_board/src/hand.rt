@@ -1,6 +1,6 @@
 //! The hand of a run, which sets and gets its verdict.
-ghost use Rattle.std.specs.Prelude.{◌≡◌, ◌≢◌, [], true, MatchBool};
-ghost use Rattle.tc_board.specs.declared.answer.Answer.TheVariants.{Met};
+ghost use Rattle.std.specs.{Prelude.{◌≡◌, ◌≢◌, [], true, MatchBool}, Option.option_map_or};
+ghost use Rattle.tc_board.specs.declared.answer.Answer.TheVariants.{Found, Met, Shut};
 
 use crate::board::Board;
 use crate::rule::{BoardSeat, CLOSED, UNBEGUN};
@@ -37,7 +37,7 @@ impl Model for Hand {
 }
 
 impl Hand {
-    ghost use Rattle.tc_board.specs.Hand.{answer_to_set, answer_to_get, answered};
+    ghost use Rattle.tc_board.specs.Hand.{answer_to_set, answered};
 
     /// The run whose word it sets.
     pub fn run(&self) -> Run
@@ -81,7 +81,7 @@ impl Hand {
     pub fn get(&mut self, board: &Board) -> Option<UserVerdict>
         requires board { self.old.board ≡ board.now }
         requires met { self.old.answers ≢ [] }
-        ensures { self.new ≡ answered self.old (answer_to_get result) }
+        ensures { self.new ≡ answered self.old (option_map_or Found result Shut) }
     {
         let word = self.run.0 as usize;
         of_rank(board.table.shared.load::<Get>(&mut self.seat, word))

@@ -92,10 +92,6 @@ module _ (h : List Entry) (n : ℕ) (started : all_started (reverse h) ≡ true)
 pub none_alive : (n : ℕ) (past later earlier : List Entry) → IsLegal n past → past ≡ later ++ earlier → is_over earlier ≡ true → IsAllOver n earlier
 none_alive n past later earlier legal split over = all_over n earlier (later_legal n later earlier (rw split at legal)) over
 
-overall_is : (past : List Entry) → worst (map (local past) (comps past)) ≡ overall past
-unfolding overall
-overall_is past = refl
-
 pub one_history : (s : Kept) (h : List Entry) (c : Closed) → StandsFor s (reverse h) → all_started (reverse h) ≡ true → is_over (reverse h) ≡ true → h ≡ merge (filter is_other h) (logs_below h s.behaviours) →
     c.behaviours ≡ s.behaviours → c.history ≡ h → c.logs ≡ logs_below h s.behaviours → c.locals ≡ map (local (reverse h)) (comps (reverse h)) → c.verdict ≡ overall (reverse h) → IsOneHistory c
 one_history s h c stands started over merged n_is h_is logs_is locals_is verdict_is =
@@ -113,7 +109,6 @@ one_history s h c stands started over merged n_is h_is logs_is locals_is verdict
       numbered = rw (h_is, locals_is, length-map) (numbered n past legal);
       locals = rw h_is locals_is;
       verdict = rw h_is verdict_is;
-      worst_of_locals = verdict_is ∙ (sym (overall_is past) ∙ ap worst (sym locals_is));
     }
 
 logs_from_prefix : (starts : List (Option (Comp × List Comp))) (parts more : List (List Entry)) (n : ℕ) → n ≤ length parts → logs_from starts (parts ++ more) n ≡ logs_from starts parts n

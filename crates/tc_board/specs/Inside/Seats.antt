@@ -1,6 +1,7 @@
 -- The views of the seats: each hand has one, and the keeper.
-use Rattle.std.specs.Prelude.{ℕ, zero, suc, true, false, List, [], ◌∷◌, ◌++◌}
-use Rattle.tc_board.specs.{Board.first_answers, Board.first_records, declared.answer.Answer.Answer, declared.answer.AnswerList.AnswerList, declared.record.Record.Record, declared.rule.View.View}
+use Rattle.std.specs.Prelude.{ℕ, zero, suc, true, false, List, [], ◌∷◌, ◌++◌, replicate, slice_set}
+use Rattle.tc_entry.specs.Prelude.{UserVerdict}
+use Rattle.tc_board.specs.{Board.first_answers, declared.answer.Answer.Answer, declared.answer.AnswerList.AnswerList, declared.record.Record.Record, declared.record.Record.TheVariants.Open, declared.record.Record.TheVariants.Unbegun, declared.rule.View.View}
 
 -- the answers of the hand of a run
 abbrev pub list : ℕ → List Answer → AnswerList
@@ -23,6 +24,16 @@ keeper_view records lists = record { lists = lists; is_keeper = true; records = 
 abbrev pub spent_view : View
 spent_view = record { lists = []; is_keeper = false; records = [] }
 
+-- the first record of the word of a run
+abbrev pub first_record : ℕ → Record
+first_record zero = Open UserVerdict.None
+first_record (suc run) = Unbegun
+
+-- the first records of n words, from this run on
+abbrev pub first_records : ℕ → ℕ → List Record
+first_records run zero = []
+first_records run (suc n) = first_record run ∷ first_records (suc run) n
+
 -- the first lists of n hands, from this run on
 abbrev pub first_lists : ℕ → ℕ → List AnswerList
 first_lists run zero = []
@@ -30,7 +41,7 @@ first_lists run (suc n) = list run (first_answers run) ∷ first_lists (suc run)
 
 -- at the opening the keeper's seat holds the list of each hand
 abbrev pub opening_view : ℕ → View
-opening_view n = keeper_view (first_records 0 n) (first_lists 0 n)
+opening_view n = keeper_view (slice_set (replicate n Unbegun) 0 (Open UserVerdict.None)) (first_lists 0 n)
 
 -- only the first of these lists
 abbrev pub first_list : List AnswerList → List AnswerList

@@ -1,6 +1,7 @@
-use Rattle.std.proofs.Common.{◌≡◌, ◌<◌, ◌+◌, ◌-◌, [], slice_set, sym, ap, ◌∙◌, arith, subst}
+use Rattle.std.proofs.Common.{◌≡◌, ◌<◌, ◌+◌, ◌-◌, [], replicate, slice_set, sym, ap, ◌∙◌, arith, subst}
 use Rattle.atomic_table.specs.Seated.{TableId}
-use Rattle.tc_board.{specs.{Board.first_records, Inside.Seats.{first_lists, keeper_view}}, proofs.NewBoard.{new_holds, splits_at, keeper_left, hand_made, hand_shape, keeper_shape, hands_added}}
+use Rattle.tc_entry.specs.Prelude.{UserVerdict}
+use Rattle.tc_board.{specs.{declared.record.Record.TheVariants.{Open, Unbegun}, Inside.Seats.{first_lists, keeper_view}}, proofs.NewBoard.{new_holds, splits_at, keeper_left, hand_made, hand_shape, keeper_shape, hands_added}}
 use Rattle.tc_board.proofs.board.Board.new.Goals as goal
 
 pub of_words-requires : goal.of_words-requires
@@ -25,7 +26,7 @@ loop-run-preserved c =
     let fewer : (c.args.n - c.loop-run.run) - 1 ≡ c.args.n - (c.loop-run.run + 1) = omega arith in
     let hand = hand_made c.loop-run.run (c.args.n - c.loop-run.run) _ _ _ c.loop-run.invariant.1 (omega arith) c.split_seat-split.ensures.4 in (
       c.split_seat-split.ensures.0 ∙ c.loop-run.invariant.0,
-      keeper_left c.loop-run.run (c.args.n - c.loop-run.run) _ _ _ c.loop-run.invariant.1 (omega arith) c.split_seat-split.ensures.2 ∙ (λ i. (keeper_view (first_records 0 c.args.n) (first_lists (c.loop-run.run + 1) (fewer i)), [])),
+      keeper_left c.loop-run.run (c.args.n - c.loop-run.run) _ _ _ c.loop-run.invariant.1 (omega arith) c.split_seat-split.ensures.2 ∙ (λ i. (keeper_view (slice_set (replicate c.args.n Unbegun) 0 (Open UserVerdict.None)) (first_lists (c.loop-run.run + 1) (fewer i)), [])),
       hands_added _ _ c.loop-run.run _ _ _ (c.split_seat-split.ensures.3 ∙ c.loop-run.invariant.0) c.loop-run.invariant.2 hand c.in_ok-push.ensures.items,
       c.loop-run.invariant.3,
     )
