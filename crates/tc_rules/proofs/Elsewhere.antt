@@ -2,7 +2,7 @@
 use Rattle.std.proofs.{Common.{ℕ, ◌≡◌, ◌≢◌, ◌<◌, ◌≤◌, ◌==◌, ◌&&◌, ◌||◌, not, if◌then◌else◌, Bool, true, false, Option, Some, None, List, [], ◌∷◌, length, get_or, refl, ap, sym, ◌∙◌, arith, get_or-set_other, get_or-set_same}, Math.ListN.set, Math.Bool.or-false, lemmas.Bool.Decides.nat_tests, lemmas.List.get_or_default}
 use Rattle.tc_entry.specs.{Prelude.{Verdict, Run, level_of, is_ended, is_fault, is_ok}, declared.comp.Comp.Comp, declared.entry.Entry.Entry, declared.op.Group.Group, declared.op.Op.Op, declared.reply.Reply.Reply}
 use Rattle.tc_verdict.proofs.Lemmas.Order.{worse_left}
-use Rattle.tc_rules.{specs.{History.{ends_case, halts, is_comp, is_finish, is_kill_of, is_stop_case, is_stop_of, kills, comp_of, created}, Inside.Words.{first_some, starts_on, started_run}, Inside.Step.{IsNextRun, IsSettled, next_excused, next_local, next_phase, next_state, touched, touched_by, touched_own, asks}, Local.{gives, setting}, Phases.{halts_from_outside, start_in}, Status.is_running, Answers.answer, Inside.Kept.IsKept, Standing.{Kept, StandsFor}, declared.component_state.ComponentState.ComponentState, declared.step.Scope.Scope, declared.run_state.RunState.RunState}, proofs.{Lemmas.Deciding.{if_same, and_no}, Lemmas.Keeping.{keeps_entry, stands_by}, Runs.{caller_changed, none_started}, Settled.settled_kept}}
+use Rattle.tc_rules.{specs.{History.{ends_case, halts, is_comp, is_finish, is_kill_of, is_stop_case, is_stop_of, kills, comp_of, created}, Inside.Words.{first_some, starts_on, started_run}, Inside.Step.{IsNextRun, IsSettled, next_excused, next_local, next_phase, next_state, touched, touched_by, touched_own, asks}, Local.{gives, setting}, Inside.Step.halts_from_outside, Phases.start_in, Status.is_running, Answers.answer, Inside.Kept.IsKept, Standing.{Kept, StandsFor}, declared.component_state.ComponentState.ComponentState, declared.step.Scope.Scope, declared.run_state.RunState.RunState}, proofs.{Lemmas.Deciding.{if_same, and_no}, Lemmas.Keeping.{keeps_entry, stands_by}, Runs.{caller_changed, none_started}, Settled.settled_kept}}
 
 -- what is known of an operation that does not touch component c
 record Spares (own : Option Comp) (op : Op) (c : ℕ) : Type 0 where

@@ -1,12 +1,7 @@
 -- Which entry decided the verdict of a test case, and who made it.
-use Rattle.std.specs.{Prelude.{ℕ, ◌≡◌, ◌<◌, ◌↔◌, nat_lt, if◌then◌else◌, Option, Some, None, List, [], ◌∷◌, ◌++◌, length}, List.flat_map, Option.{option_and_then, option_or}}
+use Rattle.std.specs.{Prelude.{ℕ, nat_lt, if◌then◌else◌, Option, Some, None, List, [], ◌∷◌, length}, List.flat_map, Option.{option_and_then, option_or}}
 use Rattle.tc_entry.specs.{Prelude.{Verdict, level_of, worst}, declared.entry.Entry.Entry}
-use Rattle.tc_rules.specs.{History.created, History.creation, History.is_comp, Local.gives, Local.overall}
-
--- the entry at this place, counted from 0, decides: the overall verdict is the reported one from this entry on, and not before
-abbrev pub IsDeciding : List Entry → ℕ → Type 0
-IsDeciding past at =
-    (later earlier : List Entry) → past ≡ later ++ earlier → (overall earlier ≡ overall past) ↔ (at < length earlier)
+use Rattle.tc_rules.specs.{History.created, History.creation, History.is_comp, Local.gives}
 
 -- the worst of the verdicts that entries gave
 unfoldable pub worst_given : List Entry → Verdict

@@ -1,5 +1,5 @@
 -- Histories in which each reply is the component table's, and the first entry of a list that has another.
-use Rattle.std.specs.Prelude.{ℕ, ◌≡◌, true, List, [], ◌∷◌, ◌≢◌, ◌<◌, length, reverse, take, slice_index_or}
+use Rattle.std.specs.Prelude.{ℕ, ◌≡◌, true, List, [], ◌∷◌, ◌++◌, ◌≢◌, length, reverse}
 use Rattle.tc_entry.specs.declared.{entry.Entry.Entry, op.Op.Op, phase.Phase.Phase, reply.Reply.Reply}
 use Rattle.tc_rules.specs.{Answers.answer, History.exists, Phases.phase, declared.check.CheckFault.CheckFault}
 
@@ -13,14 +13,10 @@ pub record IsAllOver (n : ℕ) (past : List Entry) : Type 0 where
   pub killed : (c : ℕ) → exists past c ≡ true → phase past c ≡ Phase.Killed
   pub ended : (b : ℕ) (op : Op) → answer n past b op ≡ Reply.Ended
 
--- the entries before this place are legal, and the one there has another reply than the table's
-pub record DiffersAt (n : ℕ) (list : List Entry) (at : ℕ) (reply : Reply) : Type 0 where
-  pub within : at < length list
-  pub before : IsLegal n (reverse (take at list))
-  pub answers : (d : Entry) → reply ≡ answer n (reverse (take at list)) (slice_index_or list at d).caller.0 (slice_index_or list at d).op
-  pub other : (d : Entry) → (slice_index_or list at d).reply ≢ reply
-
--- what a fault says of the list
+-- what a fault says of the list: the entries before this place are legal, and the one there has another reply than the
+-- table's, which is given
 abbrev pub IsFaultOf : ℕ → List Entry → CheckFault → Type 0
-IsFaultOf n list (CheckFault.Differs at reply) = DiffersAt n list at reply
+IsFaultOf n list (CheckFault.Differs at reply) =
+    (before : List Entry) × (e : Entry) × (behind : List Entry) × (list ≡ before ++ e ∷ behind) × (at ≡ length before)
+    × IsLegal n (reverse before) × (reply ≡ answer n (reverse before) e.caller.0 e.op) × (e.reply ≢ reply)
 IsFaultOf n list CheckFault.NoMemory = Unit {0}

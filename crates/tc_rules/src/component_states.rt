@@ -124,14 +124,17 @@ impl ComponentStates {
             .map_err(AllocError::from)
     }
 
-    // Replaces the state of component i, whose local verdict gets no better, and counts it again.
+    /// Changes the state of component i, whose local verdict gets no better. Most calls leave it as it was.
     #[inline(always)]
-    fn replace(&mut self, i: usize, state: ComponentState)
+    pub(crate) fn set(&mut self, i: usize, state: ComponentState)
         requires within { i < length self.old }
         requires no_better { level_of (slice_index_or self.old i state).local ≤ level_of state.local }
         ensures { self.new ≡ slice_set self.old i state }
     {
         let old = self.states[i];
+        if are_same(old, state) {
+            return;
+        }
         if i > 0 {
             self.running = recount(self.running, is_running(old.phase), is_running(state.phase));
             self.done = recount(self.done, is_done(old.phase), is_done(state.phase));
@@ -140,18 +143,6 @@ impl ComponentStates {
         }
         self.worst = worse_of(self.worst, state.local);
         self.states[i] = state;
-    }
-
-    /// Changes the state of component i, whose local verdict gets no better. Most calls leave it as it was.
-    #[inline(always)]
-    pub(crate) fn set(&mut self, i: usize, state: ComponentState)
-        requires within { i < length self.old }
-        requires no_better { level_of (slice_index_or self.old i state).local ≤ level_of state.local }
-        ensures { self.new ≡ slice_set self.old i state }
-    {
-        if !are_same(self.get(i), state) {
-            self.replace(i, state);
-        }
     }
 
     pub(crate) fn none_running(&self) -> bool

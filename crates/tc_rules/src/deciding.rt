@@ -1,6 +1,6 @@
 //! Which entry decided the verdict of a test case, and who made it.
-ghost use Rattle.std.specs.Prelude.{◌≡◌, ◌<◌, ℕ, if◌then◌else◌, nat_lt, None, Some, IfSome, MatchOption, option_copied, reverse, length};
-ghost use Rattle.tc_entry.specs.Prelude.{level_of};
+ghost use Rattle.std.specs.Prelude.{◌≡◌, ◌<◌, ◌↔◌, ◌++◌, ℕ, List, if◌then◌else◌, nat_lt, None, Some, IfSome, MatchOption, option_copied, reverse, length};
+ghost use Rattle.tc_entry.specs.{Prelude.level_of, declared.entry.Entry.Entry};
 ghost use Rattle.tc_rules.specs.{Inside.Words.name_given, Legal.IsLegal, Local.overall};
 ghost use Rattle.tc_rules.specs.Deciding as spec;
 ghost use Rattle.tc_rules.specs.History as histories;
@@ -32,9 +32,10 @@ fn later_deciding(
 pub fn deciding_entry(history: &[Entry]) -> Option<usize>
     ensures is { result ≡ spec.deciding (reverse history.now) }
     ensures within { IfSome result (λ at. at < length history.now) }
-    // In a legal history that entry decides.
-    ensures decides { (n : ℕ) → IsLegal n (reverse history.now) → MatchOption result
-        (overall (reverse history.now) ≡ Verdict.None) (spec.IsDeciding (reverse history.now)) }
+    // In a legal history the overall verdict is the reported one from that entry on, and not before.
+    ensures decides { (n : ℕ) → IsLegal n (reverse history.now) → MatchOption result (overall (reverse history.now) ≡ Verdict.None)
+        (λ at. (later earlier : List Entry) → reverse history.now ≡ later ++ earlier
+        → (overall earlier ≡ overall (reverse history.now)) ↔ (at < length earlier)) }
 {
     let mut worst = Verdict::None;
     let mut deciding = None;

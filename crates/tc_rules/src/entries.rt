@@ -2,25 +2,14 @@
 ghost use Rattle.std.specs.Prelude.{◌≡◌};
 ghost use Rattle.tc_rules.specs.History as history;
 ghost use Rattle.tc_rules.specs.Laws as laws;
-ghost use Rattle.tc_rules.specs.Inside.Words.{is_alive_create, started_run};
+ghost use Rattle.tc_rules.specs.Inside.Words.{started_run};
+ghost use Rattle.tc_rules.specs.Inside.Step as step;
 ghost use Rattle.tc_rules.specs.Phases as phases;
 ghost use Rattle.tc_rules.specs.Waiting as waits;
 
 use crate::awaited::Awaited;
 use tc_entry::{Comp, Entry, Op, Reply};
 use tc_verdict::Run;
-
-pub(crate) fn is_finish(op: &Op) -> bool
-    ensures { result ≡ history.is_finish op.now }
-{
-    matches!(op, Op::Finish)
-}
-
-pub(crate) fn is_stop_case(op: &Op) -> bool
-    ensures { result ≡ history.is_stop_case op.now }
-{
-    matches!(op, Op::StopCase)
-}
 
 pub(crate) fn is_stop_of(op: &Op, comp: u32) -> bool
     ensures { result ≡ history.is_stop_of op.now comp }
@@ -61,8 +50,8 @@ pub fn ends_case(entry: &Entry) -> bool
 {
     !entry.reply.is_ended()
         && (entry.reply.is_fault()
-            || is_stop_case(&entry.op)
-            || (is_finish(&entry.op) && entry.caller.0 == 0)
+            || matches!(entry.op, Op::StopCase)
+            || (matches!(entry.op, Op::Finish) && entry.caller.0 == 0)
             || is_stop_of(&entry.op, 0)
             || is_kill_of(&entry.op, 0))
 }
@@ -86,13 +75,13 @@ pub(crate) fn halts(own: Option<Comp>, entry: &Entry, comp: u32) -> bool
 {
     ends_case(entry)
         || (!entry.reply.is_ended()
-            && ((is_finish(&entry.op) && is_comp(own, comp))
+            && ((matches!(entry.op, Op::Finish) && is_comp(own, comp))
                 || is_stop_of(&entry.op, comp)
                 || is_kill_of(&entry.op, comp)))
 }
 
 pub(crate) fn halts_from_outside(own: Option<Comp>, entry: &Entry, comp: u32) -> bool
-    ensures { result ≡ phases.halts_from_outside own entry.now comp }
+    ensures { result ≡ step.halts_from_outside own entry.now comp }
 {
     halts(own, entry, comp)
         && (is_stop_of(&entry.op, comp) || is_kill_of(&entry.op, comp))
@@ -148,11 +137,4 @@ pub fn created(op: &Op, reply: Reply) -> Option<Comp>
         (Op::Create { .. }, Reply::Made(comp)) => Some(comp),
         _ => None,
     }
-}
-
-/// Whether a Create makes an alive-type component.
-pub(crate) fn is_alive_create(op: &Op) -> bool
-    ensures { result ≡ is_alive_create op.now }
-{
-    matches!(op, Op::Create { alive: true, .. })
 }

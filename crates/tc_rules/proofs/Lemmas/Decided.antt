@@ -2,7 +2,7 @@
 use Rattle.std.{proofs.{Common.{ℕ, ◌≡◌, ◌+◌, ◌<◌, ◌≤◌, ◌↔◌, ◌==◌, ◌||◌, if◌then◌else◌, nat_lt, Bool, true, false, Option, Some, None, List, [], ◌∷◌, ◌++◌, IfSome, length, map, take, get_or, reverse, refl, ap, subst, sym, ◌∙◌, arith, length-append}, lemmas.{Bool.Decides.nat_tests, List.{length-reverse, length-take-le, map-append, reverse-append, take_all, take_more}}}, specs.{List.flat_map, Option.MatchOption}}
 use Rattle.tc_entry.specs.{Prelude.{Verdict, level_of, worse, worst, is_ended}, declared.comp.Comp.Comp, declared.entry.Entry.Entry, declared.op.Op.Op, declared.reply.Reply.Reply}
 use Rattle.tc_verdict.proofs.Lemmas.Order.{none_no_worse, worse_later, worse_left, worse_swap, worst-more}
-use Rattle.tc_rules.{specs.{Deciding.{IsDeciding, deciding, worst_given}, History.{add_new, comp_of, comps, created, exists, is_comp, is_in}, Inside.Step.next_local, Legal.IsLegal, Local.{gives, local, overall, verdicts_of}}, proofs.{Lemmas.Deciding.equal_if, Lemmas.Differing.later_legal, Lemmas.LawsOfHistories.answered_is_running, Elsewhere.local_le, Lemmas.Over.{on_existing, stays}, Lemmas.Steps.worst-append, Lemmas.Stuck.is_in_comps, Named.map_same}}
+use Rattle.tc_rules.{specs.{Deciding.{deciding, worst_given}, History.{add_new, comp_of, comps, created, exists, is_comp, is_in}, Inside.Step.next_local, Legal.IsLegal, Local.{gives, local, overall, verdicts_of}}, proofs.{Lemmas.Deciding.equal_if, Lemmas.Differing.later_legal, Lemmas.LawsOfHistories.answered_is_running, Elsewhere.local_le, Lemmas.Over.{on_existing, stays}, Lemmas.Steps.worst-append, Lemmas.Stuck.is_in_comps, Named.map_same}}
 
 -- a verdict after more that are given
 
@@ -219,6 +219,11 @@ overall_given : (n : ℕ) (past : List Entry) → IsLegal n past → overall pas
 overall_given n [] legal = opening_overall ∙ sym none_given
 overall_given n (e ∷ past) legal =
     overall_more n past e legal ∙ (ap (next_local (gives e.op e.reply)) (overall_given n past legal.1) ∙ sym (given_more e past))
+
+-- the entry at this place decides: the overall verdict is the reported one from this entry on, and not before
+abbrev IsDeciding : List Entry → ℕ → Type 0
+IsDeciding past at =
+    (later earlier : List Entry) → past ≡ later ++ earlier → (overall earlier ≡ overall past) ↔ (at < length earlier)
 
 decides_at : (n : ℕ) (past : List Entry) (at : ℕ) → IsLegal n past → IsLastWorse past at → IsDeciding past at
 decides_at n past at legal last later earlier is =

@@ -1,7 +1,7 @@
 -- What one more entry does to the definitions.
 use Rattle.std.proofs.Common.{ℕ, ◌≡◌, ◌&&◌, ◌||◌, not, if◌then◌else◌, Bool, true, false, Option, Some, None, is_some, List, [], ◌∷◌, ◌++◌, refl}
 use Rattle.tc_entry.specs.{Prelude.{Verdict, Run, worst}, declared.entry.Entry.Entry, declared.phase.Phase.Phase}
-use Rattle.tc_rules.specs.{History.comp_of, History.exists, Inside.Words.first_some, History.halts, History.is_alive_type, History.is_comp, History.kills, Inside.Kept.run_of, Inside.Kept.state_of, Inside.Step.next_excused, Inside.Step.next_local, Inside.Step.next_phase, Inside.Step.next_run, Inside.Step.next_state, Local.gives, Local.local, Local.verdicts_of, Phases.halts_from_outside, Phases.is_excused, Phases.last_run, Phases.phase, Inside.Words.phase_if_not_killed, Phases.start_in, Phases.was_halted, Phases.was_killed, declared.component_state.ComponentState.ComponentState}
+use Rattle.tc_rules.specs.{History.comp_of, History.exists, Inside.Words.first_some, History.halts, History.is_alive_type, History.is_comp, History.kills, Inside.Kept.run_of, Inside.Kept.state_of, Inside.Step.next_excused, Inside.Step.next_local, Inside.Step.next_phase, Inside.Step.next_run, Inside.Step.next_state, Local.gives, Local.local, Local.verdicts_of, Inside.Step.halts_from_outside, Phases.is_excused, Phases.last_run, Phases.phase, Inside.Words.phase_if_not_killed, Phases.start_in, Phases.was_halted, Phases.was_killed, declared.component_state.ComponentState.ComponentState}
 
 abbrev pub phase_by : Bool → Option Run → Bool → Bool → Phase
 phase_by killed run halt alive_type = if killed then Phase.Killed else phase_if_not_killed run halt alive_type

@@ -1,6 +1,6 @@
 -- Parts of the public definitions that proofs speak of by a name.
 use Rattle.std.specs.{Prelude.{ℕ, ◌≡◌, ◌==◌, ◌&&◌, not, if◌then◌else◌, Bool, false, Option, Some, None, List, [], ◌∷◌, filter, length, sum_by}, Option.{option_and_then, option_map, option_map_or, option_or}}
-use Rattle.tc_entry.specs.{Prelude.Run, declared.comp.Comp.Comp, declared.entry.Entry.Entry, declared.op.Op.Op, declared.phase.Phase.Phase, declared.reply.Fault.Fault, declared.reply.Reply.Reply}
+use Rattle.tc_entry.specs.{Prelude.{Run, is_ok}, declared.comp.Comp.Comp, declared.entry.Entry.Entry, declared.op.Op.Op, declared.phase.Phase.Phase, declared.reply.Fault.Fault, declared.reply.Reply.Reply}
 use Rattle.tc_rules.specs.{Answers.is_run_of, Faults.is_many, Faults.target_of, History.comp_of, History.created, History.creation, History.is_comp, History.start, Local.local, Merge.is_by, Merge.part, Phases.phase, Waiting.holds, Waiting.is_stuck, declared.awaited.Awaited.Awaited, declared.run_log.RunLog.RunLog}
 
 -- the first of two that is there
@@ -52,6 +52,10 @@ is_alive_create op = option_map_or (λ m. m.0) (creation op) false
 -- the name that an operation gives
 abbrev pub name_in : Op → Option (List ℕ)
 name_in op = option_and_then (λ m. m.1) (creation op)
+
+-- the run that an entry starts, a Start replied Ok
+abbrev pub started : Entry → Option Run
+started e = if is_ok e.reply then option_map (λ s. s.0) (start e.op) else None
 
 -- the name that this entry gives to component c
 abbrev pub name_given : Entry → ℕ → Option (List ℕ)

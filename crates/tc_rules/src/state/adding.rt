@@ -5,7 +5,7 @@ ghost use Rattle.tc_rules.specs.Standing.{StandsFor, IsReplyOf, TakesIn};
 ghost use Rattle.tc_rules.specs.History as history;
 ghost use Rattle.tc_rules.specs.Inside.Step as step;
 
-use crate::entries::{created, ends_case, is_alive_create};
+use crate::entries::{created, ends_case};
 use crate::state::CaseState;
 use crate::step::{asks, take_in, take_in_run, take_in_runs};
 use tc_entry::{Comp, Entry, Group, Op, Reply};
@@ -47,7 +47,8 @@ impl CaseState {
         ensures stands { OnOk result (TakesIn self.old entry.now self.new) }
         ensures refused { OnErr result (self.new ≡ self.old) }
     {
-        self.states.add(is_alive_create(&entry.op))?;
+        self.states
+            .add(matches!(entry.op, Op::Create { alive: true, .. }))?;
         take_in_runs(&mut self.runs, entry);
         Ok(())
     }

@@ -1,7 +1,7 @@
 use Rattle.std.proofs.Common.{◌<◌, ◌≤◌, length, get_or}
 use Rattle.tc_entry.specs.Prelude.{level_of}
-use Rattle.tc_rules.proofs.{Counting.{counted_set, done_at, killed_at, lapsed_at, main_set, running_at}, component_states.ComponentStates.replace.Goals.{else-i-gt0, then-i-gt0}}
-use Rattle.tc_rules.proofs.component_states.ComponentStates.replace.Goals as goal
+use Rattle.tc_rules.proofs.{Counting.{counted_set, done_at, killed_at, lapsed_at, main_set, running_at}, component_states.ComponentStates.set.Goals.{else-i-gt0, then-i-gt0}}
+use Rattle.tc_rules.proofs.component_states.ComponentStates.set.Goals as goal
 
 pub recount-self-inside-requires-clause-had : goal.recount-self-inside-requires-clause-had
 recount-self-inside-requires-clause-had c =
