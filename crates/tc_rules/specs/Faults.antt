@@ -1,5 +1,5 @@
 -- The dynamic errors, in the order in which they are found. The eight errors are this project's own.
-use Rattle.std.specs.{Prelude.{ℕ, ◌==◌, ◌&&◌, ◌||◌, not, nat_le, if◌then◌else◌, Bool, true, false, Option, Some, None, is_some, List, [], ◌∷◌, length}, List.list_all, Option.option_map_or}
+use Rattle.std.specs.{Prelude.{ℕ, ◌==◌, ◌&&◌, ◌||◌, not, nat_le, if◌then◌else◌, Bool, false, Option, Some, None, is_some, List, [], ◌∷◌, length}, List.list_all, Option.option_map_or}
 use Rattle.tc_entry.specs.declared.{comp.Comp.Comp, entry.Entry.Entry, limits.TheConstants.COMPONENTS, op.Group.Group, op.Op.Op, op.Target.Target, reply.Fault.Fault}
 use Rattle.tc_rules.specs.{History.comp_of, History.comps, History.exists, Phases.phase, Status.is_killed, Status.is_running}
 
@@ -20,7 +20,7 @@ target_of (Op.Wait k t) = Some t
 target_of (Op.Wake k t) = Some t
 target_of _ = None
 
--- the component that a target names
+-- the component that a target names: Any and All name none
 abbrev pub target_names : Target → List Comp
 target_names (Target.One c) = c ∷ []
 target_names _ = []
@@ -29,11 +29,6 @@ target_names _ = []
 abbrev pub names : Op → List Comp
 names (Op.Start c run args) = c ∷ args
 names op = option_map_or target_names (target_of op) []
-
--- the target is Any or All
-abbrev pub is_many : Target → Bool
-is_many (Target.One c) = false
-is_many _ = true
 
 -- each of these components exists
 unfoldable pub all_exist : List Entry → List Comp → Bool
@@ -62,5 +57,5 @@ special_fault n past _ = None
 unfoldable pub fault : ℕ → List Entry → ℕ → Op → Option Fault
 fault n past b op =
     if not (all_exist past (names op)) then Some Fault.NoComponent
-    else if option_map_or is_many (target_of op) false && not (b == 0) then Some Fault.NotMain
+    else if option_map_or (λ t. length (target_names t) == 0) (target_of op) false && not (b == 0) then Some Fault.NotMain
     else special_fault n past op

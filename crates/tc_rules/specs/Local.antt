@@ -1,6 +1,6 @@
 -- The local verdicts of the components, and the verdict of the case.
 use Rattle.std.specs.Prelude.{ℕ, Option, Some, None, if◌then◌else◌, List, [], ◌∷◌, ◌++◌, map}
-use Rattle.tc_entry.specs.{Prelude.{Verdict, worst, given}, declared.entry.Entry.Entry, declared.op.Op.Op, declared.reply.Reply.Reply}
+use Rattle.tc_entry.specs.{Prelude.{Verdict, worst, given, is_fault, is_ok}, declared.entry.Entry.Entry, declared.op.Op.Op, declared.reply.Reply.Reply}
 use Rattle.tc_rules.specs.History.{comps, comp_of, exists, is_comp}
 
 -- the verdict that an operation sets
@@ -12,9 +12,7 @@ setting _ = []
 -- the verdicts that an entry gives to its caller's component: what it sets, and error for a dynamic error or a stop of the
 -- test case
 abbrev pub gives : Op → Reply → List Verdict
-gives op Reply.Ok = setting op
-gives op (Reply.Fault f) = Verdict.Error ∷ []
-gives op _ = []
+gives op reply = if is_ok reply then setting op else if is_fault reply then Verdict.Error ∷ [] else []
 
 -- the verdicts given to component c, the newest first
 abbrev pub verdicts_of : List Entry → ℕ → List Verdict

@@ -1,5 +1,5 @@
 -- The status of components: running, alive, done, killed.
-use Rattle.std.specs.{Prelude.{◌||◌, not, Bool, true, false, is_some, List}, List.{list_any, list_all}}
+use Rattle.std.specs.{Prelude.{ℕ, ◌||◌, not, Bool, true, false, is_some, List}, List.{list_any, list_all}}
 use Rattle.tc_entry.specs.declared.{entry.Entry.Entry, op.Target.Target, phase.Phase.Phase}
 use Rattle.tc_rules.specs.{History.ptcs, Phases.is_excused, Phases.last_run, Phases.phase}
 
@@ -19,28 +19,25 @@ is_done Phase.Stopped = true
 is_done Phase.Killed = true
 is_done _ = false
 
--- the answer to running: of one component, of any parallel one, of all parallel ones
+-- the answer for a target: this component passes the first test, any parallel one does, or all parallel ones pass the second
+abbrev pub pass : List Entry → (ℕ → Bool) → (ℕ → Bool) → Target → Bool
+pass past one each (Target.One c) = one c.0
+pass past one each Target.Any = list_any one (ptcs past)
+pass past one each Target.All = list_all each (ptcs past)
+
+-- the answer to running; of all, each that was ever started is running, or another component stopped or killed it
 unfoldable pub running : List Entry → Target → Bool
-running past (Target.One c) = is_running (phase past c.0)
-running past Target.Any = list_any (λ c. is_running (phase past c)) (ptcs past)
--- each that was ever started is running, or another component stopped or killed it
-running past Target.All =
-    list_all (λ c. not (is_some (last_run past c)) || is_running (phase past c) || is_excused past c) (ptcs past)
+running past =
+    pass past (λ c. is_running (phase past c)) (λ c. not (is_some (last_run past c)) || is_running (phase past c) || is_excused past c)
 
 -- the answer to alive: not killed
 unfoldable pub alive : List Entry → Target → Bool
-alive past (Target.One c) = not (is_killed (phase past c.0))
-alive past Target.Any = list_any (λ c. not (is_killed (phase past c))) (ptcs past)
-alive past Target.All = list_all (λ c. not (is_killed (phase past c))) (ptcs past)
+alive past = pass past (λ c. not (is_killed (phase past c))) (λ c. not (is_killed (phase past c)))
 
--- the answer to done: of all, none is running
+-- the answer to done; of all, none is running
 unfoldable pub done : List Entry → Target → Bool
-done past (Target.One c) = is_done (phase past c.0)
-done past Target.Any = list_any (λ c. is_done (phase past c)) (ptcs past)
-done past Target.All = list_all (λ c. not (is_running (phase past c))) (ptcs past)
+done past = pass past (λ c. is_done (phase past c)) (λ c. not (is_running (phase past c)))
 
 -- the answer to killed
 unfoldable pub killed : List Entry → Target → Bool
-killed past (Target.One c) = is_killed (phase past c.0)
-killed past Target.Any = list_any (λ c. is_killed (phase past c)) (ptcs past)
-killed past Target.All = list_all (λ c. is_killed (phase past c)) (ptcs past)
+killed past = pass past (λ c. is_killed (phase past c)) (λ c. is_killed (phase past c))

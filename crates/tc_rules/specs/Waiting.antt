@@ -1,7 +1,7 @@
 -- Waiting for the end or the kill of components, and when a case can no longer continue.
 -- All of it is this project's own: there are no timers, so a case that waits for what cannot come is stuck.
 use Rattle.std.specs.{Prelude.{ℕ, ◌==◌, not, if◌then◌else◌, Bool, true, false, Option, Some, None, List, [], ◌∷◌}, List.list_all, Option.option_map_or}
-use Rattle.tc_entry.specs.declared.{entry.Entry.Entry, op.Op.Op, phase.Phase.Phase, reply.Reply.Reply}
+use Rattle.tc_entry.specs.{Prelude.is_parked, declared.entry.Entry.Entry, declared.op.Op.Op, declared.phase.Phase.Phase, declared.reply.Reply.Reply}
 use Rattle.tc_rules.specs.{History.comps, Phases.phase, Status.done, Status.killed, declared.awaited.Awaited.Awaited}
 
 -- what a Wait or a Wake is for
@@ -16,8 +16,7 @@ wake_op a = Op.Wake a.killed a.target
 
 -- what the caller waits for after this call: a Wait or Wake replied Parked
 abbrev pub parks : Op → Reply → Option Awaited
-parks op Reply.Parked = awaited op
-parks op _ = None
+parks op reply = if is_parked reply then awaited op else None
 
 -- what run b waits for: its last entry is a Wait or Wake replied Parked
 abbrev pub waiting : List Entry → ℕ → Option Awaited

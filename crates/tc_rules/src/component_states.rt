@@ -45,13 +45,7 @@ fn recount(count: u32, was: bool, is: bool) -> u32
     requires few { count ≤ COMPONENTS }
     ensures { result + bit was ≡ count + bit is }
 {
-    if was {
-        if is { count } else { count - 1 }
-    } else if is {
-        count + 1
-    } else {
-        count
-    }
+    count - u32::from(was) + u32::from(is)
 }
 
 #[tactic(auto, using(crate::proofs::Counting::counted_rules))]

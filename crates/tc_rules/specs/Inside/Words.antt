@@ -1,7 +1,7 @@
 -- Parts of the public definitions that proofs speak of by a name.
 use Rattle.std.specs.{Prelude.{ℕ, ◌≡◌, ◌==◌, ◌&&◌, not, if◌then◌else◌, Bool, false, Option, Some, None, List, [], ◌∷◌, filter, length, sum_by}, Option.{option_and_then, option_map, option_map_or, option_or}}
 use Rattle.tc_entry.specs.{Prelude.{Run, is_ok}, declared.comp.Comp.Comp, declared.entry.Entry.Entry, declared.op.Op.Op, declared.phase.Phase.Phase, declared.reply.Fault.Fault, declared.reply.Reply.Reply}
-use Rattle.tc_rules.specs.{Answers.is_run_of, Faults.is_many, Faults.target_of, History.comp_of, History.created, History.creation, History.is_comp, History.start, Local.local, Merge.is_by, Merge.part, Phases.phase, Waiting.holds, Waiting.is_stuck, declared.awaited.Awaited.Awaited, declared.run_log.RunLog.RunLog}
+use Rattle.tc_rules.specs.{Answers.is_run_of, Faults.target_names, Faults.target_of, History.comp_of, History.created, History.creation, History.is_comp, History.start, Local.local, Merge.is_by, Merge.part, Phases.phase, Waiting.holds, Waiting.is_stuck, declared.awaited.Awaited.Awaited, declared.run_log.RunLog.RunLog}
 
 -- the first of two that is there
 abbrev pub first_some : {A : Type 0} → Option A → Option A → Option A
@@ -79,4 +79,4 @@ calls_of b past = length (filter (is_by b) past)
 
 -- the call is about Any or All
 abbrev pub asks_many : Op → Bool
-asks_many op = option_map_or is_many (target_of op) false
+asks_many op = option_map_or (λ t. length (target_names t) == 0) (target_of op) false
