@@ -1,12 +1,15 @@
 -- What the commonest lines say, and what the walk makes of them.
-use Rattle.std.{proofs.{Common.{ℕ, ◌≡◌, ◌∙◌, get_or, Bool, true, false, Some, None, Ok, Err, List, [], ◌∷◌, ◌++◌, length, refl, sym, ap, arith, codes, tests}, lemmas.{Bool.Decides.{Decides-by_and, nat_tests}, List.Splits.slice_split_none}}, specs.{Prelude.{◌==◌, ◌&&◌, nat_le, if◌then◌else◌, is_some, IsTrue}, Cmp.Lexicographic.bytes_decides, List.{list_all, list_any, slice_split}, Option.option_map_or}}
+use Rattle.std.{proofs.{Common.{ℕ, ◌≡◌, ◌∙◌, get_or, Bool, true, false, Some, None, Ok, Err, List, [], ◌∷◌, ◌++◌, length, refl, sym, ap, arith, codes, tests}, lemmas.{Bool.Decides.{Decides-by_and, nat_tests}, List.Splits.slice_split_none, Slice.Eq.{HasBytesAt, text_from_reads}}}, specs.{Prelude.{◌==◌, ◌&&◌, nat_le, if◌then◌else◌, is_some, IsTrue}, List.{list_all, list_any, slice_split}, Option.option_map_or}}
 use Rattle.tc_entry.specs.Prelude.{IsName, UserVerdict, given, is_name_byte, name_of}
 use Rattle.tc_step.specs.{declared.{place.{Place.Place, TargetPlace.TargetPlace}, step.{Status.Status, Step.Step}}, Prelude.{of_target, target_map}}
-use Rattle.tc_reader.{specs.{Campaign.{place, step_of}, FirstPass.{argument_count, open_after}, Inside.{IsStepOf, IsTargetOf, Takes, WalkView, after, counted, counted_with, fault_in, if_bound, keyword_text, place_in, with_made_step}, Line.{are_printable, form, line_of, reference, target_named, word_name}, Names.{Word, among, index_of}, SecondPass.is_unbound, Text.words, Words.{is_name, is_text, keyword, name, verdict}, declared.{counts.{Counts.Counts, Open.Open}, fault.ReadFault.ReadFault, kind.ScriptKind.ScriptKind, line.{Call.Call, Keyword.Keyword, Line.Line}}}, proofs.Naming.{name_is_found, name_is_said, other_is}}
+use Rattle.tc_reader.{specs.{Campaign.{place, step_of}, FirstPass.{argument_count, open_after}, Inside.{IsStepOf, IsTargetOf, Takes, WalkView, after, counted, counted_with, fault_in, if_bound, keyword_text, place_in, with_made_step}, Line.{are_printable, form, line_of, reference, target_named, word_name}, Names.{Word, among, index_of}, SecondPass.is_unbound, Text.words, Words.{is_name, is_text, keyword, name, verdict}, declared.{counts.{Counts.Counts, Open.Open}, fault.ReadFault.ReadFault, kind.ScriptKind.ScriptKind, line.{Call.Call, Keyword.Keyword, Line.Line}}}, proofs.{Naming.{name_is_found, name_is_said, other_is}, Skipping.{comment_line, empty_line}}}
 
-same : (line text : List ℕ) → is_text line text ≡ true → line ≡ text
-unfolding is_text
-same line text e = (bytes_decides line text).0 e
+-- the word has the length and the bytes of the text
+abbrev pub Spells : List ℕ → List ℕ → Type 0
+Spells word text = (length word ≡ length text) × HasBytesAt word 0 text
+
+same : (word text : List ℕ) → Spells word text → word ≡ text
+same word text is = text_from_reads word text is.0 is.1
 
 -- ---- verdict calls
 
@@ -19,15 +22,15 @@ unfolding line_of words is_text keyword verdict are_printable form
 sets UserVerdict.None = refl
 sets _ = refl
 
-pub get : (line : List ℕ) (ns : List Word) → is_text line (codes "getverdict") ≡ true → IsStepOf ns line Step.GetVerdict
+pub get : (line : List ℕ) (ns : List Word) → Spells line (codes "getverdict") → IsStepOf ns line Step.GetVerdict
 unfolding step_of
-get line ns e = record { call = Call.GetVerdict; is = rw (same line _ e) gets; is_made = refl; gives_none = refl; binds_none = λ _. refl; starts_none = λ _ _. refl }
+get line ns e = record { call = Call.GetVerdict; is = rw (same line (codes "getverdict") e) gets; is_made = refl; gives_none = refl; binds_none = λ _. refl; starts_none = λ _ _. refl }
 
-pub set : (v : UserVerdict) (line : List ℕ) (ns : List Word) → is_text line (codes "setverdict " ++ name_of (given v)) ≡ true → IsStepOf ns line (Step.SetVerdict v)
+pub set : (v : UserVerdict) (line : List ℕ) (ns : List Word) → Spells line (codes "setverdict " ++ name_of (given v)) → IsStepOf ns line (Step.SetVerdict v)
 unfolding step_of
-set v line ns e = record { call = Call.SetVerdict v; is = rw (same line _ e) (sets v); is_made = refl; gives_none = refl; binds_none = λ _. refl; starts_none = λ _ _. refl }
+set v line ns e = record { call = Call.SetVerdict v; is = rw (same line (codes "setverdict " ++ name_of (given v)) e) (sets v); is_made = refl; gives_none = refl; binds_none = λ _. refl; starts_none = λ _ _. refl }
 
-pub ruleset verdict_rules = (get)
+pub ruleset verdict_rules = (get, set)
 
 -- ---- status calls
 
@@ -47,26 +50,26 @@ waits : (word : List ℕ) (t : TargetPlace (Place Word)) → IsOne word → targ
 unfolding line_of words is_text keyword are_printable form
 waits word t one is = rw (one.is_one, one.is_printable, one.is_some, is) refl
 
-named_by : (ns : List Word) (word text : List ℕ) (t : TargetPlace (Place ℕ)) (named : TargetPlace (Place Word)) → is_text word text ≡ true → IsOne text → target_named text ≡ Ok named
+named_by : (ns : List Word) (word text : List ℕ) (t : TargetPlace (Place ℕ)) (named : TargetPlace (Place Word)) → Spells word text → IsOne text → target_named text ≡ Ok named
     → if_bound ns (of_target named) (target_map (place ns) named) ≡ Some t → IsTargetOf ns word t
 named_by ns word text t named e one is bound =
     record { target = named; is = λ s. rw (same word text e) (asks s text named one is); is_wait = rw (same word text e) (waits text named one is); is_bound = bound }
 
-pub own : (ns : List Word) (word : List ℕ) → is_text word (codes "self") ≡ true → IsTargetOf ns word (TargetPlace.One Place.Own)
+pub own : (ns : List Word) (word : List ℕ) → Spells word (codes "self") → IsTargetOf ns word (TargetPlace.One Place.Own)
 unfolding target_named reference is_text step_of
-own ns word e = named_by ns word _ _ (TargetPlace.One Place.Own) e (record { is_some = refl; is_one = refl; is_printable = refl }) refl refl
+own ns word e = named_by ns word (codes "self") _ (TargetPlace.One Place.Own) e (record { is_some = refl; is_one = refl; is_printable = refl }) refl refl
 
-pub main : (ns : List Word) (word : List ℕ) → is_text word (codes "mtc") ≡ true → IsTargetOf ns word (TargetPlace.One Place.Main)
+pub main : (ns : List Word) (word : List ℕ) → Spells word (codes "mtc") → IsTargetOf ns word (TargetPlace.One Place.Main)
 unfolding target_named reference is_text step_of
-main ns word e = named_by ns word _ _ (TargetPlace.One Place.Main) e (record { is_some = refl; is_one = refl; is_printable = refl }) refl refl
+main ns word e = named_by ns word (codes "mtc") _ (TargetPlace.One Place.Main) e (record { is_some = refl; is_one = refl; is_printable = refl }) refl refl
 
-pub any : (ns : List Word) (word : List ℕ) → is_text word (codes "any") ≡ true → IsTargetOf ns word TargetPlace.Any
+pub any : (ns : List Word) (word : List ℕ) → Spells word (codes "any") → IsTargetOf ns word TargetPlace.Any
 unfolding target_named is_text step_of
-any ns word e = named_by ns word _ _ TargetPlace.Any e (record { is_some = refl; is_one = refl; is_printable = refl }) refl refl
+any ns word e = named_by ns word (codes "any") _ TargetPlace.Any e (record { is_some = refl; is_one = refl; is_printable = refl }) refl refl
 
-pub all : (ns : List Word) (word : List ℕ) → is_text word (codes "all") ≡ true → IsTargetOf ns word TargetPlace.All
+pub all : (ns : List Word) (word : List ℕ) → Spells word (codes "all") → IsTargetOf ns word TargetPlace.All
 unfolding target_named is_text step_of
-all ns word e = named_by ns word _ _ TargetPlace.All e (record { is_some = refl; is_one = refl; is_printable = refl }) refl refl
+all ns word e = named_by ns word (codes "all") _ TargetPlace.All e (record { is_some = refl; is_one = refl; is_printable = refl }) refl refl
 
 allowed_byte : (b : ℕ) → IsTrue (is_name_byte b) → ((nat_le 32 b && nat_le b 126) ≡ true) × ((b == 32) ≡ false)
 allowed_byte b h = (grind (arith, nat_tests, tests, h), grind (arith, nat_tests, tests, h))
@@ -170,4 +173,7 @@ pub refused : (number : ℕ) (counts : Counts) (w next : WalkView) (bytes : List
     → counted counts (Line.Step Call.GetVerdict) ≡ Err kind → Takes number counts w next (Err (ReadFault.Script (fault_in number kind))) (line_of bytes)
 refused number counts w next bytes s kind is count = (refl, rw is.is (counted_so counts counts.state is.call is.gives_none ∙ count))
 
-pub ruleset step_rules = (stepped, refused)
+pub skipped : (number : ℕ) (counts : Counts) (w : WalkView) (bytes : List ℕ) → line_of bytes ≡ Ok Line.Skipped → Takes number counts w w (Ok counts) (line_of bytes)
+skipped number counts w bytes is = (Line.Skipped, is, refl, refl)
+
+pub ruleset step_rules = (stepped, refused, skipped, empty_line, comment_line)

@@ -34,6 +34,11 @@ counted_with _ o s = Ok (record s { state = o })
 abbrev pub counted : Counts → Line → Result Counts ScriptKind
 counted s l = option_map_or (λ o. counted_with l o s) (open_after l s.state) (Err ScriptKind.BadPlace)
 
+-- these counts, if there is no fault
+abbrev pub with_counts : {A E : Type 0} → Counts → Result A E → Result Counts E
+with_counts counts (Ok x) = Ok counts
+with_counts counts (Err e) = Err e
+
 -- the text may end here
 abbrev pub may_end : Counts → Bool
 may_end s = ends_well s.state s.cases

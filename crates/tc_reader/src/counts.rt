@@ -57,7 +57,7 @@ fn open_after(line: &Line, state: Open) -> Option<Open>
 }
 
 impl Counts {
-    ghost use Rattle.tc_reader.specs.Inside.{counted, counted_with, may_end};
+    ghost use Rattle.tc_reader.specs.Inside.{counted, counted_with, may_end, with_counts};
 
     // What is remembered after the line, if this is open then and it passes no limit.
     fn with(self, line: &Line, state: Open) -> Result<Counts, ScriptKind>
@@ -99,9 +99,9 @@ impl Counts {
         }
     }
 
-    /// What is remembered after one more step that starts nothing, or what is wrong with its place.
-    pub(crate) fn with_step(self) -> Result<Counts, ScriptKind>
-        ensures { result ≡ counted self (Line.Step Call.GetVerdict) }
+    /// Continues after one more step that starts nothing, or answers what is wrong with its place.
+    pub(crate) fn take_step(&mut self) -> Result<(), ScriptKind>
+        ensures { with_counts self.new result ≡ counted self.old (Line.Step Call.GetVerdict) }
     {
         if !matches!(self.state, Open::Behaviour) {
             return Err(ScriptKind::BadPlace);
@@ -109,10 +109,8 @@ impl Counts {
         if self.steps >= STEPS {
             return Err(ScriptKind::TooMany);
         }
-        Ok(Counts {
-            steps: self.steps + 1,
-            ..self
-        })
+        self.steps += 1;
+        Ok(())
     }
 
     /// Whether the text may end here.

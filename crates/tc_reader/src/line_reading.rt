@@ -201,13 +201,7 @@ pub fn read_line<'t>(
 ) -> Result<Line, LineFault>
     ensures { Gives result (line_of line.now) }
 {
-    // The shortest lines need no words.
-    if line.is_empty() {
-        return Ok(Line::Skipped);
-    }
-    if is_comment(line) {
-        return Ok(Line::Skipped);
-    }
+    // This one needs no words.
     if is_word(line, b"end") {
         return Ok(Line::End);
     }

@@ -4,7 +4,7 @@ ghost use Rattle.tc_reader.specs.{Inside.IsStepOf, Inside.IsTargetOf, Inside.key
 
 use crate::Step;
 use crate::names::Names;
-use crate::spelling::{is_word, read_name, spelled};
+use crate::spelling::read_name;
 use tc_entry::UserVerdict;
 use tc_step::{Place, Status, TargetPlace};
 
@@ -14,13 +14,14 @@ use tc_step::{Place, Status, TargetPlace};
 fn plain_verdict(line: &[u8]) -> Option<Step>
     ensures { (ns : List (List ℕ)) → IfSome result (λ step. IsStepOf ns line.now step) }
 {
-    spelled!(line,
-        b"getverdict" => Step::GetVerdict,
-        b"setverdict pass" => Step::SetVerdict(UserVerdict::Pass),
-        b"setverdict fail" => Step::SetVerdict(UserVerdict::Fail),
-        b"setverdict none" => Step::SetVerdict(UserVerdict::None),
-        b"setverdict inconc" => Step::SetVerdict(UserVerdict::Inconc),
-    )
+    match line {
+        b"getverdict" => Some(Step::GetVerdict),
+        b"setverdict pass" => Some(Step::SetVerdict(UserVerdict::Pass)),
+        b"setverdict fail" => Some(Step::SetVerdict(UserVerdict::Fail)),
+        b"setverdict none" => Some(Step::SetVerdict(UserVerdict::None)),
+        b"setverdict inconc" => Some(Step::SetVerdict(UserVerdict::Inconc)),
+        _ => None,
+    }
 }
 
 /// What the line asks, and the bytes after the space.
@@ -80,16 +81,12 @@ fn plain_bound(bound: &Names, word: &[u8]) -> Option<TargetPlace>
 fn plain_target(bound: &Names, word: &[u8]) -> Option<TargetPlace>
     ensures { IfSome result (λ target. IsTargetOf bound.now word.now target) }
 {
-    if is_word(word, b"self") {
-        Some(TargetPlace::One(Place::Own))
-    } else if is_word(word, b"mtc") {
-        Some(TargetPlace::One(Place::Main))
-    } else if is_word(word, b"any") {
-        Some(TargetPlace::Any)
-    } else if is_word(word, b"all") {
-        Some(TargetPlace::All)
-    } else {
-        plain_bound(bound, word)
+    match word {
+        b"self" => Some(TargetPlace::One(Place::Own)),
+        b"mtc" => Some(TargetPlace::One(Place::Main)),
+        b"any" => Some(TargetPlace::Any),
+        b"all" => Some(TargetPlace::All),
+        _ => plain_bound(bound, word),
     }
 }
 

@@ -1,13 +1,13 @@
 //! The campaign of a text, or its first fault, in one walk over its lines.
 ghost use Rattle.std.specs.Prelude.{◌≡◌, ◌≤◌, ◌+◌, ◌^◌, [], false, IfOk, OnOk, All, map};
-ghost use Rattle.tc_reader.specs.{Campaign.IsCase, Campaign.Reads, Campaign.campaign, Inside.IsCampaign, Inside.MayTake, Inside.Takes, Inside.begins, Inside.counts_of, Line.line_of, Names.has_twice};
+ghost use Rattle.tc_reader.specs.{Campaign.IsCase, Campaign.Reads, Campaign.campaign, Inside.IsCampaign, Inside.MayTake, Inside.Takes, Inside.begins, Inside.counts_of, Inside.with_counts, Line.line_of, Names.has_twice};
 
 use crate::campaign::Campaign;
 use crate::counts::{Counts, Open};
 use crate::fault::{ReadFault, ScriptFault};
 use crate::plain::plain_step;
 use crate::walk::Walk;
-use crate::{LineFault, Lines, ScriptKind, read_line};
+use crate::{LineFault, Lines, ScriptKind, is_comment, read_line};
 use std::alloc::Global;
 
 // Takes the line of this number by its words.
@@ -16,13 +16,13 @@ use std::alloc::Global;
 fn take_words<'t>(
     alloc: Global,
     walk: &mut Walk,
-    counts: Counts,
+    counts: &mut Counts,
     number: usize,
     text: &'t [u8],
     words: &mut Vec<&'t [u8]>,
-) -> Result<Counts, ReadFault>
-    requires may_take { MayTake counts walk.old }
-    ensures taken { Takes number counts walk.old walk.new result (line_of text.now) }
+) -> Result<(), ReadFault>
+    requires may_take { MayTake counts.old walk.old }
+    ensures taken { Takes number counts.old walk.old walk.new (with_counts counts.new result) (line_of text.now) }
 {
     let line = match read_line(alloc, text, words) {
         Ok(line) => line,
@@ -32,9 +32,10 @@ fn take_words<'t>(
         Err(LineFault::NoMemory) => return Err(ReadFault::NoMemory),
     };
     match counts.with_line(&line) {
-        Ok(counts) => {
+        Ok(more) => {
+            *counts = more;
             walk.take(alloc, number, &line)?;
-            Ok(counts)
+            Ok(())
         }
         Err(kind) => Err(ReadFault::Script(ScriptFault { line: number, kind })),
     }
@@ -46,22 +47,23 @@ fn take_words<'t>(
 fn take_line<'t>(
     alloc: Global,
     walk: &mut Walk,
-    counts: Counts,
+    counts: &mut Counts,
     number: usize,
     text: &'t [u8],
     words: &mut Vec<&'t [u8]>,
-) -> Result<Counts, ReadFault>
-    requires may_take { MayTake counts walk.old }
-    ensures taken { Takes number counts walk.old walk.new result (line_of text.now) }
+) -> Result<(), ReadFault>
+    requires may_take { MayTake counts.old walk.old }
+    ensures taken { Takes number counts.old walk.old walk.new (with_counts counts.new result) (line_of text.now) }
 {
+    // The shortest lines need no words.
+    if text.is_empty() || is_comment(text) {
+        return Ok(());
+    }
     let Some(step) = plain_step(walk.names.bound(), text) else {
         return take_words(alloc, walk, counts, number, text, words);
     };
-    match counts.with_step() {
-        Ok(counts) => {
-            walk.made.add_step(step)?;
-            Ok(counts)
-        }
+    match counts.take_step() {
+        Ok(()) => Ok(walk.made.add_step(step)?),
         Err(kind) => Err(ReadFault::Script(ScriptFault { line: number, kind })),
     }
 }
@@ -89,11 +91,10 @@ fn walk_lines(alloc: Global, text: &[u8], walk: &mut Walk) -> Result<(), ReadFau
     let mut rest = Lines::new(text);
     let mut line = 1;
     while let Some(bytes) = rest.next() {
-        counts = match take_line(alloc, walk, counts, line, bytes, &mut words) {
-            Ok(counts) => counts,
+        match take_line(alloc, walk, &mut counts, line, bytes, &mut words) {
+            Ok(()) => line += 1,
             Err(fault) => return Err(fault),
-        };
-        line += 1;
+        }
     }
     if !counts.has_ended() {
         let kind = ScriptKind::Cut;

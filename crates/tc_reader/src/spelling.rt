@@ -57,8 +57,6 @@ macro_rules! spelled {
     };
 }
 
-pub(crate) use spelled;
-
 /// The keyword of this spelling.
 #[tactic(auto, unfolding(crate::specs::Words::keyword))]
 pub fn read_keyword(word: &[u8]) -> Option<Keyword>
