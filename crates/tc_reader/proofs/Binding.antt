@@ -1,11 +1,11 @@
 -- If the references of a behaviour are bound, each place of its steps is.
 use Rattle.std.{proofs.{Common.{ℕ, suc, ◌≡◌, ◌∙◌, ◌+◌, ◌<◌, Bool, true, false, Option, Some, None, List, [], ◌∷◌, ◌++◌, length, map, All, nat_eq, refl, sym, ap, arith, rules, cond, ◌≤◌}, lemmas.List.{Elements.All-cons, Folds.list_any-append, length-append, length-map, map-append}}, specs.{Prelude.{◌||◌, not, if◌then◌else◌, is_some}, Cmp.Lexicographic.{bytes_decides, pointwise}, List.{list_any, position_or_len}, Option.{option_map, option_or}, Map.lookup}}
 use Rattle.tc_step.specs.{declared.place.{GroupPlace.GroupPlace, Place.Place, TargetPlace.TargetPlace}, Prelude.{group_map, target_map, IsBound, AreBound, of_group, of_target}}
-use Rattle.tc_reader.specs.{Campaign.{place, step_of, steps}, FirstPass.at_next, Names.{add, all_of, among, has_twice, index_of, Word}, Scope.{Head, bound, scope_of, parameters_of}, SecondPass.{is_unbound, misnamed, name_fault}, Words.is_text, Inside.{add_head, head_fault, names_of}, declared.{kind.ScriptKind.ScriptKind, line.{Call.Call, Line.Line}}}
+use Rattle.tc_reader.specs.{Campaign.{place, step_of, steps}, FirstPass.at_next, Names.{add, all_of, among, has_twice, index_of, Word}, Scope.{Head, behaviours_before, bound, cases_before, heads_around, parameters_of}, SecondPass.{is_unbound, misnamed, name_fault}, Words.is_text, Inside.{add_head, head_fault, names_of}, declared.{kind.ScriptKind.ScriptKind, line.{Call.Call, Line.Line}}}
 use Rattle.indexmap.{specs.IndexMap.{IndexMap, insert_entry}, proofs.CallerLemmas.insert_entry-new}
 
-pub named_next : (past : List Line) (l : Line) (rest : List Line) → misnamed past (l ∷ rest) ≡ None → (name_fault (scope_of past (l ∷ rest)) l ≡ None) × (misnamed (l ∷ past) rest ≡ None)
-named_next past l rest is = by (name_fault (scope_of past (l ∷ rest)) l) is
+pub named_next : (past : List Line) (l : Line) (rest : List Line) → misnamed past (l ∷ rest) ≡ None → (name_fault (cases_before past) (behaviours_before past) (bound past) (heads_around past (l ∷ rest)) l ≡ None) × (misnamed (l ∷ past) rest ≡ None)
+named_next past l rest is = by (name_fault (cases_before past) (behaviours_before past) (bound past) (heads_around past (l ∷ rest)) l) is
   where
     by : (o : Option ScriptKind) → option_or (option_map (at_next past) o) (misnamed (l ∷ past) rest) ≡ None → (o ≡ None) × (misnamed (l ∷ past) rest ≡ None)
     by (Some kind) e = absurd cc
@@ -134,10 +134,10 @@ are_bound hs past (Line.Step call ∷ rest) named = (search rules, are_bound hs 
 are_bound hs past (_ ∷ rest) named = tt
 
 -- those of a behaviour with these parameters
-pub places_bound : (hs : List Head) (past : List Line) (n : List ℕ) (ps : List (List ℕ)) (rest : List Line) → name_fault (scope_of past (Line.Behaviour n ps ∷ rest)) (Line.Behaviour n ps) ≡ None
+pub places_bound : (hs : List Head) (past : List Line) (n : List ℕ) (ps : List (List ℕ)) (rest : List Line) → name_fault (cases_before past) (behaviours_before past) (bound past) (heads_around past (Line.Behaviour n ps ∷ rest)) (Line.Behaviour n ps) ≡ None
     → misnamed (Line.Behaviour n ps ∷ past) rest ≡ None → AreBound (length ps) (steps hs (all_of [] ps) rest)
 places_bound hs past n ps rest here named =
-    let once = neither (among n (scope_of past (Line.Behaviour n ps ∷ rest)).behaviours) (has_twice ps) (no_first _ ScriptKind.Twice _ here).0 in
+    let once = neither (among n (behaviours_before past)) (has_twice ps) (no_first _ ScriptKind.Twice _ here).0 in
     let long : length (all_of [] ps) ≡ length ps = all_length [] ps once.1 (new_to_none ps) ∙ omega arith in
     rw (← long) (are_bound hs (Line.Behaviour n ps ∷ past) rest named)
 
@@ -176,5 +176,5 @@ head_more n k hs = by (is_some (parameters_of n hs))
     by false = grind (arith, length-append hs ((n, k) ∷ []))
 
 pub head_is : (hs gs : List Head) (cs ns : List Word) (n : Word) (ps : List Word)
-    → head_fault hs n ps ≡ name_fault (record { cases = cs; behaviours = names_of hs; bound = ns; heads = gs }) (Line.Behaviour n ps)
+    → head_fault hs n ps ≡ name_fault cs (names_of hs) ns gs (Line.Behaviour n ps)
 head_is hs gs cs ns n ps = rw (there n hs, length-map hs (λ h. h.0)) refl

@@ -1,8 +1,8 @@
 -- The test for a name, what a name is, and that each keyword is read from its spelling.
-use Rattle.std.{proofs.{Common.{ℕ, ◌≡◌, ◌≢◌, ◌≤◌, Bool, true, false, Some, List, [], ◌∷◌, length, codes, refl, ap, arith, rules, tests}, lemmas.Bool.Decides.{nat_tests, Decides-by_and}}, specs.{Prelude.{◌==◌, ◌&&◌, ◌||◌, not, nat_eq, nat_le, IsTrue, All, IfSome, slice_get}, Bool.Decides, Char.is_ascii_alphabetic, Cmp.Lexicographic.{bytes_decides, pointwise}, List.list_all}}
+use Rattle.std.{proofs.{Common.{ℕ, ◌≡◌, ◌≢◌, ◌≤◌, Bool, true, false, Some, List, [], ◌∷◌, length, codes, refl, ap, arith, rules, tests}, lemmas.Bool.Decides.{nat_tests, Decides-by_and}}, specs.{Prelude.{◌==◌, ◌&&◌, ◌||◌, not, nat_eq, nat_le, IsTrue, All, IfSome, slice_get}, Bool.Decides, Char.is_ascii_alphabetic, Cmp.Lexicographic.{bytes_decides, pointwise}, List.list_all, Option.option_map_or}}
 use Rattle.tc_entry.specs.{declared.limits.TheConstants.NAME_BYTES, Prelude.{IsName, is_name_byte}}
 use Rattle.tc_step.specs.declared.step.Status.{Status}
-use Rattle.tc_reader.specs.{Inside.keyword_text, Words.{is_text, begins_with_letter, is_name, keyword}, declared.line.Keyword.Keyword}
+use Rattle.tc_reader.specs.{Inside.keyword_text, Words.{is_text, is_name, keyword}, declared.line.Keyword.Keyword}
 
 both : (a b : Bool) → (a && b) ≡ true → (a ≡ true) × (b ≡ true)
 both true true e = (refl, refl)
@@ -37,8 +37,10 @@ other_length word text e = by (pointwise nat_eq word text) (bytes_decides word t
     by true f = let long : length word ≡ length text = ap length (f refl) in absurd (grind (arith, nat_tests, e, long))
     by false f = refl
 
+abbrev begins_with_letter : List ℕ → Bool
+begins_with_letter word = option_map_or is_ascii_alphabetic (slice_get word 0) false
+
 first_letter : (word : List ℕ) → begins_with_letter word ≡ true → IfSome (slice_get word 0) (λ b. IsTrue (is_ascii_alphabetic b)) × (1 ≤ length word)
-unfolding begins_with_letter
 first_letter [] e = absurd cc
 first_letter (b ∷ bs) e = (search (rules, tests), omega arith)
 
@@ -49,7 +51,6 @@ all_allowed : (word : List ℕ) → Decides (list_all is_name_byte word) (All (�
 all_allowed word = Decides-by_and is_name_byte (λ b. IsTrue (is_name_byte b)) (list_all is_name_byte) (λ b. true_is (is_name_byte b)) refl (λ _ _. refl) word
 
 begins_well : (word : List ℕ) → IfSome (slice_get word 0) (λ b. IsTrue (is_ascii_alphabetic b)) → 1 ≤ length word → begins_with_letter word ≡ true
-unfolding begins_with_letter
 begins_well [] letter some = absurd (omega (arith, some))
 begins_well (b ∷ bs) letter some = (true_is (is_ascii_alphabetic b)).1 letter
 

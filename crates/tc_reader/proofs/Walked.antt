@@ -1,7 +1,7 @@
 -- What the walk has found of the lines before, whatever lines follow.
 use Rattle.std.{proofs.{Common.{ℕ, suc, ◌≡◌, ◌≤◌, ◌∙◌, ◌+◌, Bool, true, false, Option, Some, None, Result, Ok, Err, List, [], ◌∷◌, ◌++◌, length, All, refl, sym, ap, arith, append_assoc}, lemmas.List.{Elements.All-same, append-nil, map-append}}, specs.{Prelude.{is_some, if◌then◌else◌}, List.list_any, Option.{option_map, option_map_or, option_or, unwrap_or}}}
 use Rattle.tc_step.specs.{declared.step.Step.Step, Prelude.{ScriptView, of_group, of_target}}
-use Rattle.tc_reader.specs.{Campaign.CampaignView, Campaign.behaviours, Campaign.cases, Campaign.step_of, Campaign.steps, FirstPass.at_next, FirstPass.behaviours_in, FirstPass.open_after, FirstPass.opened, FirstPass.placed, Inside.AreCases, Inside.MadeView, Inside.MakeScripts, Inside.MayEnd, Inside.WalkView, Inside.after, Inside.all_filled, Inside.begins, Inside.called as after_call, Inside.case_ended, Inside.case_left, Inside.ended, Inside.fault_at_end, Inside.fault_in, Inside.finished, Inside.first_wrong, Inside.head_fault, Inside.made_step, Inside.names_at, Inside.names_of, Inside.or_fault, Inside.start_kind, Inside.started_of, Inside.with_last, Inside.with_start, Inside.with_step, Names.Word, Names.add, Names.among, Scope.Head, Scope.behaviours_before, Scope.bound, Scope.cases_before, Scope.heads, Scope.heads_around, Scope.heads_with, Scope.scope_of, Scope.with_bound, SecondPass.is_unbound, SecondPass.misnamed, SecondPass.name_fault, declared.fault.ScriptFault.ScriptFault, declared.kind.ScriptKind.ScriptKind, declared.line.Call.Call, declared.line.Line.Line, declared.counts.Open.Open, declared.made.Start.Start}
+use Rattle.tc_reader.specs.{Campaign.CampaignView, Campaign.behaviours, Campaign.cases, Campaign.step_of, Campaign.steps, FirstPass.at_next, FirstPass.behaviours_in, FirstPass.open_after, FirstPass.opened, FirstPass.placed, Inside.AreCases, Inside.MadeView, Inside.MakeScripts, Inside.MayEnd, Inside.WalkView, Inside.after, Inside.all_filled, Inside.begins, Inside.case_fault, Inside.called as after_call, Inside.case_ended, Inside.case_left, Inside.ended, Inside.fault_at_end, Inside.fault_in, Inside.finished, Inside.first_wrong, Inside.head_fault, Inside.made_step, Inside.names_of, Inside.or_fault, Inside.start_kind, Inside.started_of, Inside.with_last, Inside.with_start, Inside.with_step, Names.Word, Names.add, Names.among, Scope.Head, Scope.behaviours_before, Scope.bound, Scope.cases_before, Scope.heads, Scope.heads_around, Scope.heads_with, Scope.with_bound, SecondPass.is_unbound, SecondPass.misnamed, SecondPass.name_fault, declared.fault.ScriptFault.ScriptFault, declared.kind.ScriptKind.ScriptKind, declared.line.Call.Call, declared.line.Line.Line, declared.counts.Open.Open, declared.made.Start.Start}
 use Rattle.tc_reader.proofs.{Binding.{add_named, head_is, head_more}, Making.{all_fill, called, called_in}, Placed.{AllPlaced, few_behaviours, in_behaviour, not_nothing}, Sound.{MakesScripts, are_cases, are_placed, onto, scripts_are}}
 
 -- ---- faults
@@ -42,7 +42,7 @@ unbound true s more = refl
 unbound false s more = refl
 
 call_fault : (cs bs ns : List Word) (hs : List Head) (call : Call)
-    → name_fault (record { cases = cs; behaviours = bs; bound = ns; heads = hs }) (Line.Step call) ≡ option_or (fault_of (made_step ns call)) (start_fault hs call)
+    → name_fault cs bs ns hs (Line.Step call) ≡ option_or (fault_of (made_step ns call)) (start_fault hs call)
 call_fault cs bs ns hs (Call.Create n alive given_name) = by (among n ns)
   where
     by : (b : Bool) → (if b then Some ScriptKind.Twice else None) ≡ option_or (fault_of (if b then Err ScriptKind.Twice else Ok (step_of [] ns (Call.Create n alive given_name)))) None
@@ -226,8 +226,8 @@ walked_behaviour n ps w past is at =
     let l : Line = Line.Behaviour n ps in
     let more = head_more n (length ps) w.names.heads in
     let kind = head_fault w.names.heads n ps in
-    let same : head_fault w.names.heads n ps ≡ name_fault (record { cases = []; behaviours = behaviours_before past; bound = []; heads = [] }) l =
-    head_is w.names.heads [] [] [] n ps ∙ ap (λ (bs : List Word). name_fault (record { cases = []; behaviours = bs; bound = []; heads = [] }) l) is.used in
+    let same : head_fault w.names.heads n ps ≡ name_fault [] (behaviours_before past) [] [] l =
+    head_is w.names.heads [] [] [] n ps ∙ ap (λ (bs : List Word). name_fault [] bs [] [] l) is.used in
     record {
       placed = (at, is.placed);
       cases_used = is.cases_used;
@@ -292,13 +292,13 @@ walked_call call w past is at r same = by r same
     hs : List Line → List Head
     hs rest = heads_with w.names.heads rest
 
-    kind_is : (rest : List Line) → name_fault (scope_of past (l ∷ rest)) l ≡ option_or (fault_of (made_step w.names.bound call)) (start_fault (hs rest) call)
+    kind_is : (rest : List Line) → name_fault (cases_before past) (behaviours_before past) (bound past) (heads_around past (l ∷ rest)) l ≡ option_or (fault_of (made_step w.names.bound call)) (start_fault (hs rest) call)
     kind_is rest =
         call_fault (cases_before past) (behaviours_before past) (bound past) (heads_around past (l ∷ rest)) call
         ∙ ap (λ ns. option_or (fault_of (made_step ns call)) (start_fault (heads_around past (l ∷ rest)) call)) (sym is.bound_now)
         ∙ ap (λ gs. option_or (fault_of (made_step w.names.bound call)) (start_fault gs call)) (is.heads_are (not_nothing past l at refl) (l ∷ rest))
 
-    first : (rest : List Line) (o : Option ScriptKind) → name_fault (scope_of past (l ∷ rest)) l ≡ o
+    first : (rest : List Line) (o : Option ScriptKind) → name_fault (cases_before past) (behaviours_before past) (bound past) (heads_around past (l ∷ rest)) l ≡ o
         → misnamed [] (onto past (l ∷ rest)) ≡ option_or (first_wrong (hs rest) w.starts) (option_or w.fault (option_or (option_map (at_next past) o) (misnamed (l ∷ past) rest)))
     first rest o e = is.named (l ∷ rest) ∙ ap (λ k. option_or (first_wrong (hs rest) w.starts) (option_or w.fault (option_or (option_map (at_next past) k) (misnamed (l ∷ past) rest)))) e
 
@@ -424,9 +424,9 @@ unfolding behaviours_in opened heads
 walked_case n w past is at =
     let l : Line = Line.TestCase n in
     let wrong = first_wrong w.names.heads w.starts in
-    let kind = name_fault (names_at w.names) l in
-    let same : name_fault (names_at w.names) l ≡ name_fault (record { cases = cases_before past; behaviours = []; bound = []; heads = [] }) l =
-    ap (λ (cs : List Word). name_fault (record { cases = cs; behaviours = []; bound = []; heads = [] }) l) is.cases_used in
+    let kind = case_fault w.names.cases n in
+    let same : case_fault w.names.cases n ≡ name_fault (cases_before past) [] [] [] l =
+    ap (λ (cs : List Word). name_fault cs [] [] [] l) is.cases_used in
     record {
       placed = (at, is.placed);
       cases_used = ap (add n) is.cases_used;

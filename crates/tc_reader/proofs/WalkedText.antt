@@ -2,7 +2,7 @@
 use Rattle.std.{proofs.{Common.{ℕ, ◌≡◌, ◌≤◌, ◌∙◌, ◌+◌, ◌^◌, Bool, true, false, Option, Some, None, Result, Ok, Err, List, [], ◌∷◌, ◌++◌, length, refl, sym, ap, subst, arith, append_assoc}, lemmas.{Bool.Decides.nat_tests, List.{append-nil, reverse-append}}}, specs.{Prelude.{◌||◌, nat_le, nat_lt, reverse, if◌then◌else◌}, Option.option_map_or}}
 use Rattle.tc_entry.specs.declared.limits.TheConstants.{ARGUMENTS}
 use Rattle.tc_step.specs.declared.limits.TheConstants.{STEPS}
-use Rattle.tc_reader.specs.{Campaign.CampaignView, Campaign.Reads, Campaign.campaign, Campaign.cases, FirstPass.argument_count, FirstPass.cases_in, FirstPass.ends_well, Inside.judged, FirstPass.open_after, FirstPass.opened, FirstPass.parsed, FirstPass.steps_in, Inside.IsCampaign, Inside.IsWithin, Inside.MayTake, Inside.Takes, Inside.WalkView, Inside.after, Inside.begins, Inside.counted, Inside.counted_with, Inside.counts_of, Inside.ended, Inside.fault_at_end, Inside.fault_in, Inside.may_end as text_may_end, Line.line_of, Line.◌>>=◌, Scope.bound, SecondPass.misnamed, Text.lines as lines_of, declared.counts.Counts.Counts, declared.fault.ReadFault.ReadFault, declared.fault.ScriptFault.ScriptFault, declared.kind.ScriptKind.ScriptKind, declared.line.Line.Line, declared.counts.Open.Open}
+use Rattle.tc_reader.specs.{Campaign.CampaignView, Campaign.Reads, Campaign.campaign, Campaign.cases, FirstPass.argument_count, Inside.judged, FirstPass.open_after, FirstPass.opened, FirstPass.parsed, FirstPass.steps_in, Inside.IsCampaign, Inside.IsWithin, Inside.MayTake, Inside.Takes, Inside.WalkView, Inside.after, Inside.begins, Inside.counted, Inside.counted_with, Inside.counts_of, Inside.ended, Inside.fault_at_end, Inside.fault_in, Inside.may_end as text_may_end, Line.line_of, Line.◌>>=◌, Scope.bound, SecondPass.misnamed, Text.lines as lines_of, declared.counts.Counts.Counts, declared.fault.ReadFault.ReadFault, declared.fault.ScriptFault.ScriptFault, declared.kind.ScriptKind.ScriptKind, declared.line.Line.Line, declared.counts.Open.Open}
 use Rattle.tc_reader.proofs.{Lawful.{case_names, cases_are}, Placed.few_names, Skipping.{Agrees, counted_agrees}, Sound.onto, Taking.few_lines, Walked.{IsWalked, all_cases, cases_end, may_end, named_end, walked_first, walked_more}}
 
 -- what was read of a text: some lines, after which these are left
@@ -117,14 +117,14 @@ turned (l ∷ past) rest = ap (λ xs. xs ++ rest) (reverse-append (l ∷ []) pas
 all_lines : (w : WalkView) (counts : Counts) (number : ℕ) (texts : List (List ℕ)) (total : Result (List Line) ScriptFault)
     → (is : IsRead w counts number texts total) → texts ≡ [] → text_may_end counts ≡ true → total ≡ Ok (onto is.past [])
 all_lines w counts number texts total is at may =
-    let well : ends_well (opened is.past) (cases_in is.past) ≡ true = ap text_may_end (sym is.counted_so) ∙ may in
+    let well : text_may_end (counts_of is.past) ≡ true = ap text_may_end (sym is.counted_so) ∙ may in
     let one : parsed is.past texts ≡ Ok (reverse is.past) = rw (at, well) refl in
     sym is.so_far ∙ one ∙ ap (λ ls. Ok ls) (sym (append-nil (reverse is.past)) ∙ turned is.past [])
 
 pub read_cut : (text : List ℕ) (w : WalkView) (counts : Counts) (number : ℕ) (texts : List (List ℕ))
     → IsRead w counts number texts (parsed [] (lines_of text)) → texts ≡ [] → text_may_end counts ≡ false → campaign text ≡ Err (fault_in number ScriptKind.Cut)
 read_cut text w counts number texts is at may =
-    let well : ends_well (opened is.past) (cases_in is.past) ≡ false = ap text_may_end (sym is.counted_so) ∙ may in
+    let well : text_may_end (counts_of is.past) ≡ false = ap text_may_end (sym is.counted_so) ∙ may in
     let one : parsed is.past texts ≡ Err (fault_in (length is.past + 1) ScriptKind.Cut) = rw (at, well) refl in
     faulty text (fault_in number ScriptKind.Cut) (sym is.so_far ∙ one ∙ ap (λ n. Err (fault_in n ScriptKind.Cut)) (sym is.numbered))
 

@@ -1,28 +1,8 @@
 -- What is open at a line, and which lines are out of place. `past` lists the lines before, the newest first.
-use Rattle.std.specs.{Prelude.{ℕ, ◌+◌, ◌||◌, not, nat_le, nat_lt, Bool, true, false, if◌then◌else◌, Option, Some, None, is_some, Result, Ok, Err, List, [], ◌∷◌, length, filter, reverse}, Option.unwrap_or, Result.result_map_both}
+use Rattle.std.specs.{Prelude.{ℕ, ◌+◌, ◌||◌, ◌&&◌, not, nat_le, nat_lt, Bool, true, false, if◌then◌else◌, Option, Some, None, is_some, Result, Ok, Err, List, [], ◌∷◌, length, reverse}, Option.unwrap_or, Result.result_map_both}
 use Rattle.tc_entry.specs.declared.limits.TheConstants.{ARGUMENTS, BEHAVIOURS}
 use Rattle.tc_step.specs.declared.limits.TheConstants.{STEPS}
 use Rattle.tc_reader.specs.{Line.{line_of, ◌>>=◌}, declared.{fault.ScriptFault.ScriptFault, kind.ScriptKind.ScriptKind, line.{Call.Call, Line.Line}, counts.Open.Open}}
-
--- it begins a test case
-abbrev pub is_case : Line → Bool
-is_case (Line.TestCase n) = true
-is_case _ = false
-
--- it begins a behaviour
-abbrev pub is_behaviour : Line → Bool
-is_behaviour (Line.Behaviour n ps) = true
-is_behaviour _ = false
-
--- it is a step
-abbrev pub is_step : Line → Bool
-is_step (Line.Step call) = true
-is_step _ = false
-
--- the lines after the newest one that passes
-abbrev pub since : (Line → Bool) → List Line → List Line
-since p [] = []
-since p (l ∷ past) = if p l then [] else l ∷ since p past
 
 -- what is open after a line, by what is open before it, if the line may be there
 abbrev pub open_after : Line → Open → Option Open
@@ -42,15 +22,23 @@ opened (l ∷ past) = unwrap_or (open_after l (opened past)) Open.Nothing
 
 -- the test cases so far
 unfoldable pub cases_in : List Line → ℕ
-cases_in past = length (filter is_case past)
+cases_in [] = 0
+cases_in (Line.TestCase n ∷ past) = cases_in past + 1
+cases_in (_ ∷ past) = cases_in past
 
 -- in the test case that is open
 unfoldable pub behaviours_in : List Line → ℕ
-behaviours_in past = length (filter is_behaviour (since is_case past))
+behaviours_in [] = 0
+behaviours_in (Line.TestCase n ∷ past) = 0
+behaviours_in (Line.Behaviour n ps ∷ past) = behaviours_in past + 1
+behaviours_in (_ ∷ past) = behaviours_in past
 
 -- in the behaviour that is open
 unfoldable pub steps_in : List Line → ℕ
-steps_in past = length (filter is_step (since is_behaviour past))
+steps_in [] = 0
+steps_in (Line.Behaviour n ps ∷ past) = 0
+steps_in (Line.Step call ∷ past) = steps_in past + 1
+steps_in (_ ∷ past) = steps_in past
 
 -- how many arguments a call gives
 abbrev pub argument_count : Call → ℕ
@@ -71,17 +59,14 @@ placed past l =
     else if passes_limit l past then Err ScriptKind.TooMany
     else Ok l
 
--- a text may end where this is open, after that many test cases: no test case is open, and there is one
-abbrev pub ends_well : Open → ℕ → Bool
-ends_well Open.Nothing count = nat_lt 0 count
-ends_well _ count = false
-
 -- a fault of the line after these
 abbrev pub at_next : List Line → ScriptKind → ScriptFault
 at_next past kind = record { line = length past + 1; kind = kind }
 
 -- The lines of a text, the first ones read already: all of them, or the first fault, BadByte to Cut. A line has its first
--- fault, BadByte to TooMany, with its number.
+-- fault, BadByte to TooMany, with its number. The text may end where a test case may begin, if there is one before.
 abbrev pub parsed : List Line → List (List ℕ) → Result (List Line) ScriptFault
-parsed past [] = if ends_well (opened past) (cases_in past) then Ok (reverse past) else Err (at_next past ScriptKind.Cut)
+parsed past [] =
+    if is_some (open_after (Line.TestCase []) (opened past)) && nat_lt 0 (cases_in past) then Ok (reverse past)
+    else Err (at_next past ScriptKind.Cut)
 parsed past (bytes ∷ more) = result_map_both (λ l. l) (at_next past) (line_of bytes >>= placed past) >>= λ l. parsed (l ∷ past) more

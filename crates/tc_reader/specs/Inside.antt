@@ -3,7 +3,7 @@
 use Rattle.std.specs.{Prelude.{◌+◌, ◌≡◌, ◌||◌, nat_le, nat_lt, Bool, if◌then◌else◌, Result, Ok, Err, List, [], ◌∷◌, ◌++◌, length, ℕ, ◌==◌, ◌&&◌, not, is_some, Option, Some, None, map, ◌≤◌, ◌<◌, false, All, codes}, List.list_any, Option.{option_map, option_map_or, option_or}, Result.result_map_both}
 use Rattle.tc_entry.specs.declared.limits.TheConstants.{ARGUMENTS, BEHAVIOURS}
 use Rattle.tc_step.specs.{declared.{limits.TheConstants.STEPS, place.{Place.Place, TargetPlace.TargetPlace}, step.{Status.Status, Step.Step}}, Prelude.{of_group, of_target, target_map, IsScript, ScriptView}}
-use Rattle.tc_reader.specs.{Campaign.{CampaignView, IsCase, place, step_of, steps}, FirstPass.{argument_count, at_next, behaviours_in, cases_in, ends_well, open_after, opened, placed, steps_in}, Line.{line_of, word_name, ◌>>=◌}, Names.{Word, add, all_of, among, has_twice, index_of}, Scope.{Head, ScopeView, heads, parameters_of, with_bound}, SecondPass.{is_unbound, name_fault}, declared.{counts.{Counts.Counts, Open.Open, TheConstants.TEST_CASES}, fault.{ReadFault.ReadFault, ScriptFault.ScriptFault}, kind.ScriptKind.ScriptKind, line.{Call.Call, Keyword.Keyword, Line.Line}, made.Start.Start}}
+use Rattle.tc_reader.specs.{Campaign.{CampaignView, IsCase, place, step_of, steps}, FirstPass.{argument_count, at_next, behaviours_in, cases_in, open_after, opened, placed, steps_in}, Line.{line_of, word_name, ◌>>=◌}, Names.{Word, add, all_of, among, has_twice, index_of}, Scope.{Head, heads, parameters_of, with_bound}, SecondPass.is_unbound, declared.{counts.{Counts.Counts, Open.Open, TheConstants.TEST_CASES}, fault.{ReadFault.ReadFault, ScriptFault.ScriptFault}, kind.ScriptKind.ScriptKind, line.{Call.Call, Keyword.Keyword, Line.Line}, made.Start.Start}}
 
 -- the behaviours of a test case: their names, and the numbers of their parameters
 abbrev pub signatures : List (Word × ScriptView) → List Head
@@ -41,7 +41,7 @@ with_counts counts (Err e) = Err e
 
 -- the text may end here
 abbrev pub may_end : Counts → Bool
-may_end s = ends_well s.state s.cases
+may_end s = is_some (open_after (Line.TestCase []) s.state) && nat_lt 0 s.cases
 
 -- their names
 abbrev pub names_of : List Head → List Word
@@ -66,9 +66,9 @@ pub record NamesView : Type 0 where
   pub bound : List Word
   pub heads : List Head
 
--- the same, as the names at a line
-abbrev pub names_at : NamesView → ScopeView
-names_at s = record { cases = s.cases; behaviours = names_of s.heads; bound = s.bound; heads = s.heads }
+-- what is wrong with the name of a test case after these
+abbrev pub case_fault : List Word → Word → Option ScriptKind
+case_fault cs n = if among n cs then Some ScriptKind.Twice else None
 
 -- the names after a line
 abbrev pub names_after : NamesView → Line → NamesView
@@ -252,7 +252,7 @@ called number call (Ok s) w = record {
 abbrev pub begun : ℕ → Word → WalkView → WalkView
 begun number n w = record {
   names = names_after w.names (Line.TestCase n);
-  fault = or_fault w.fault number (name_fault (names_at w.names) (Line.TestCase n));
+  fault = or_fault w.fault number (case_fault w.names.cases n);
   starts = w.starts;
   made = record { done = w.made.done; case = Some n; drafts = w.made.drafts; current = w.made.current };
 }

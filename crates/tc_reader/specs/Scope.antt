@@ -53,14 +53,3 @@ abbrev pub heads_around : List Line → List Line → List Head
 heads_around [] rest = []
 heads_around (Line.TestCase n ∷ past) rest = heads rest
 heads_around (l ∷ past) rest = heads_around past (l ∷ rest)
-
--- the names at a line: the test cases and the behaviours that are used, what is bound, and the behaviours of the test case
-pub record ScopeView : Type 0 where
-  pub cases : List Word
-  pub behaviours : List Word
-  pub bound : List Word
-  pub heads : List Head
-
--- the names at the first line of `rest`, past the lines before
-abbrev pub scope_of : List Line → List Line → ScopeView
-scope_of past rest = record { cases = cases_before past; behaviours = behaviours_before past; bound = bound past; heads = heads_around past rest }

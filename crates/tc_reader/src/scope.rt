@@ -2,7 +2,7 @@
 ghost use Rattle.std.specs.Prelude.{◌≡◌, ◌≤◌, ◌<◌, ◌+◌, length, [], IfOk, OnOk, map, if◌then◌else◌, Some, None};
 ghost use Rattle.tc_entry.specs.declared.limits.TheConstants.{ARGUMENTS};
 ghost use Rattle.tc_step.specs.{Prelude.{of_group, of_target, group_map, target_map}, declared.limits.TheConstants.STEPS};
-ghost use Rattle.tc_reader.specs.{Campaign.place as the_place, FirstPass.argument_count, Inside.head_fault, Inside.if_bound, Inside.made_step, Inside.names_after, Inside.names_at, Inside.step_if_bound, Names.all_of, Names.has_twice, SecondPass.is_unbound, SecondPass.name_fault, declared.line.Line.Line};
+ghost use Rattle.tc_reader.specs.{Campaign.place as the_place, FirstPass.argument_count, Inside.case_fault, Inside.head_fault, Inside.if_bound, Inside.made_step, Inside.names_after, Inside.step_if_bound, Names.all_of, Names.has_twice, SecondPass.is_unbound, declared.line.Line.Line};
 
 use crate::names::{Heads, Names, is_one_of};
 use crate::{Call, Name, ScriptKind, Step};
@@ -161,7 +161,7 @@ impl Scope {
 
     /// Continues after the line that begins a test case. It answers what is wrong with the name.
     pub(crate) fn take_case(&mut self, name: &Name) -> Result<Option<ScriptKind>, AllocError>
-        ensures fault { IfOk result (λ kind. kind ≡ name_fault (names_at self.old) (Line.TestCase name.now)) }
+        ensures fault { IfOk result (λ kind. kind ≡ case_fault self.old.cases name.now) }
         ensures names { OnOk result (self.new ≡ names_after self.old (Line.TestCase name.now)) }
     {
         let is_new = self.cases.add(name.copy())?;
