@@ -2,7 +2,7 @@
 use Rattle.std.{proofs.{Common.{ℕ, suc, ◌≡◌, ◌∙◌, ◌+◌, ◌≤◌, Bool, true, false, Option, Some, None, List, [], ◌∷◌, ◌++◌, length, map, All, refl, sym, ap, arith, rules, append_assoc, cond, Result, Ok, Err}, lemmas.{Bool.Decides.nat_tests, List.{Elements.All-cons, Folds.list_any-append, append-nil, length-map, map-append}}}, specs.{Prelude.{◌&&◌, ◌||◌, not, if◌then◌else◌, ◌==◌, is_some, slice_get, IfSome}, List.{list_any, position_or_len}, Map.lookup, Option.{option_map, option_map_or}}}
 use Rattle.tc_entry.specs.declared.limits.TheConstants.{BEHAVIOURS}
 use Rattle.tc_step.specs.Prelude.{ScriptView}
-use Rattle.tc_reader.{specs.{Campaign.{IsCase, StartsOne, behaviours, cases, place, step_of, steps}, Inside.{signatures, AreCases, add_head, names_of}, Names.{Word, add, all_of, among, has_twice, index_of}, Scope.{Head, behaviours_before, cases_before, heads, heads_around, heads_with, parameters_of, with_bound}, SecondPass.misnamed, Words.is_text, declared.{kind.ScriptKind.ScriptKind, line.{Call.Call, Line.Line}}}, proofs.Binding.{add_new, differ, either, named_next, neither, no_fault, no_first, there}}
+use Rattle.tc_reader.{specs.{Campaign.{IsCase, StartsOne, behaviours, cases, place, step_of, steps}, Inside.{signatures, AreCases, add_head, names_of, heads}, Names.{Word, add, all_of, among, has_twice, index_of}, Scope.{Head, behaviours_before, cases_before, heads_around, heads_with, parameters_of, with_bound}, SecondPass.misnamed, Words.is_text, declared.{kind.ScriptKind.ScriptKind, line.{Call.Call, Line.Line}}}, proofs.Binding.{add_new, differ, either, named_next, neither, no_fault, no_first, there}}
 
 -- ---- a behaviour and its place
 
@@ -127,7 +127,6 @@ case_names past (l ∷ rest) named once = case_names (l ∷ past) rest (named_ne
 -- ---- test cases
 
 case_is : (past : List Line) (n : Word) (rest : List Line) → length (heads rest) ≤ BEHAVIOURS → misnamed (Line.TestCase n ∷ past) rest ≡ None → IsCase (behaviours (heads rest) rest)
-unfolding heads
 case_is past n rest few named =
     let same : heads rest ≡ signatures (behaviours (heads rest) rest) = heads_are (heads rest) [] (Line.TestCase n ∷ past) rest named refl in
     let long : length (heads rest) ≡ length (behaviours (heads rest) rest) = ap length same ∙ length-map (behaviours (heads rest) rest) (λ b. (b.0, b.1.parameters)) in

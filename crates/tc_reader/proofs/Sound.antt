@@ -2,7 +2,7 @@
 use Rattle.std.proofs.{Common.{All, ℕ, ◌≡◌, ◌+◌, ◌<◌, ◌≤◌, Ok, None, List, [], ◌∷◌, length, arith, rules}, lemmas.List.Elements.All-cons}
 use Rattle.tc_entry.specs.declared.limits.TheConstants.{ARGUMENTS, BEHAVIOURS}
 use Rattle.tc_step.specs.{declared.limits.TheConstants.STEPS, Prelude.ScriptView}
-use Rattle.tc_reader.{specs.{Campaign.{behaviours, cases, steps}, FirstPass.{behaviours_in, placed, steps_in}, Inside.{AreCases, AreScripts, MakesScript, add_head}, Names.{Word, all_of}, Scope.{Head, heads, heads_with, with_bound}, SecondPass.misnamed, declared.line.Line.Line}, proofs.{Binding.{named_next, places_bound, head_more}, Placed.{AllPlaced, few_given, few_more, within_limits}}}
+use Rattle.tc_reader.{specs.{Campaign.{behaviours, cases, steps}, FirstPass.{behaviours_in, placed, steps_in}, Inside.{AreCases, AreScripts, MakesScript, add_head, heads}, Names.{Word, all_of}, Scope.{Head, heads_with, with_bound}, SecondPass.misnamed, declared.line.Line.Line}, proofs.{Binding.{named_next, places_bound, head_more}, Placed.{AllPlaced, few_given, few_more, within_limits}}}
 
 -- each line is in its place, and within the limits
 abbrev pub ArePlaced : List Line → List Line → Type 0
@@ -62,7 +62,7 @@ are_scripts hs past (Line.Behaviour n ps ∷ rest) are named =
 are_scripts hs past (l ∷ rest) are named = are_scripts hs (l ∷ past) rest are.1 (named_next past l rest named).1
 
 pub are_cases : (past ls : List Line) → ArePlaced past ls → misnamed past ls ≡ None → AreCases ls
-unfolding heads behaviours_in
+unfolding behaviours_in
 are_cases past [] are named = tt
 are_cases past (Line.TestCase n ∷ rest) are named =
     let two = named_next past (Line.TestCase n) rest named in

@@ -30,8 +30,6 @@ pub set : (v : UserVerdict) (line : List ℕ) (ns : List Word) → Spells line (
 unfolding step_of
 set v line ns e = record { call = Call.SetVerdict v; is = rw (same line (codes "setverdict " ++ name_of (given v)) e) (sets v); is_made = refl; gives_none = refl; binds_none = λ _. refl; starts_none = λ _ _. refl }
 
-pub ruleset verdict_rules = (get, set)
-
 -- ---- status calls
 
 -- one word of printable bytes
@@ -147,7 +145,7 @@ wait ns line word t e is = record {
   starts_none = λ _ _. refl;
 }
 
-pub ruleset ask_rules = (ask, wait)
+pub ruleset ask_rules = (ask, wait, get, set)
 
 -- ---- what the walk makes of it
 

@@ -1,14 +1,13 @@
 -- Taking the first line of a text.
 use Rattle.std.{proofs.{Common.{ℕ, suc, ◌≡◌, ◌∙◌, ◌+◌, ◌-◌, ◌<◌, ◌≤◌, Bool, true, false, List, [], ◌∷◌, ◌++◌, length, take, drop, refl, sym, ap, get_or, arith, drop-cons}, lemmas.{Bool.Decides.nat_tests, Grind.get_or_default_zero, List.{Splits.{length-slice_split, slice_split_at, slice_split_none}, Sums.count_by-le-length, append-nil, get_or-take, length-drop, length-take-le, take-append-drop, take_all}}}, specs.{Prelude.{◌==◌, if◌then◌else◌, slice_index, All, Some, None}, List.slice_split}}
 use Rattle.memchr.specs.Find.{IsFirstByte, is_byte}
-use Rattle.tc_reader.specs.{Inside.is_newline, Text.{lines, without_end}}
+use Rattle.tc_reader.specs.{Inside.{is_newline, without_end}, Text.lines}
 
 -- no byte of the text is a line feed
 abbrev pub HasNoEnd : List ℕ → Type 0
 HasNoEnd text = All (λ b. is_newline b ≡ false) text
 
 at_last : (text : List ℕ) (n : ℕ) → length text ≡ n + 1 → without_end text ≡ (if slice_index text n == 10 then take n text else text)
-unfolding without_end
 at_last text n long = let e : length text - 1 ≡ n = omega (arith, long) in rw e refl
 
 cut_on : (b c : ℕ) (rest : List ℕ) → without_end (b ∷ c ∷ rest) ≡ b ∷ without_end (c ∷ rest)
@@ -32,7 +31,6 @@ some_lines text some = by (length text == 0) (grind (arith, nat_tests, some))
     by true e = absurd cc
 
 shorter : (text : List ℕ) → length (without_end text) ≤ length text
-unfolding without_end
 shorter text = by (slice_index text (length text - 1) == 10)
   where
     by : (b : Bool) → length (if b then take (length text - 1) text else text) ≤ length text

@@ -1,7 +1,7 @@
 -- What the walk has found of the lines before, whatever lines follow.
 use Rattle.std.{proofs.{Common.{ℕ, suc, ◌≡◌, ◌≤◌, ◌∙◌, ◌+◌, Bool, true, false, Option, Some, None, Result, Ok, Err, List, [], ◌∷◌, ◌++◌, length, All, refl, sym, ap, arith, append_assoc}, lemmas.List.{Elements.All-same, append-nil, map-append}}, specs.{Prelude.{is_some, if◌then◌else◌}, List.list_any, Option.{option_map, option_map_or, option_or, unwrap_or}}}
 use Rattle.tc_step.specs.{declared.step.Step.Step, Prelude.{ScriptView, of_group, of_target}}
-use Rattle.tc_reader.specs.{Campaign.CampaignView, Campaign.behaviours, Campaign.cases, Campaign.step_of, Campaign.steps, FirstPass.at_next, FirstPass.behaviours_in, FirstPass.open_after, FirstPass.opened, FirstPass.placed, Inside.AreCases, Inside.MadeView, Inside.MakeScripts, Inside.MayEnd, Inside.WalkView, Inside.after, Inside.all_filled, Inside.begins, Inside.case_fault, Inside.called as after_call, Inside.case_ended, Inside.case_left, Inside.ended, Inside.fault_at_end, Inside.fault_in, Inside.finished, Inside.first_wrong, Inside.head_fault, Inside.made_step, Inside.names_of, Inside.or_fault, Inside.start_kind, Inside.started_of, Inside.with_last, Inside.with_start, Inside.with_step, Names.Word, Names.add, Names.among, Scope.Head, Scope.behaviours_before, Scope.bound, Scope.cases_before, Scope.heads, Scope.heads_around, Scope.heads_with, Scope.with_bound, SecondPass.is_unbound, SecondPass.misnamed, SecondPass.name_fault, declared.fault.ScriptFault.ScriptFault, declared.kind.ScriptKind.ScriptKind, declared.line.Call.Call, declared.line.Line.Line, declared.counts.Open.Open, declared.made.Start.Start}
+use Rattle.tc_reader.specs.{Campaign.CampaignView, Campaign.behaviours, Campaign.cases, Campaign.step_of, Campaign.steps, FirstPass.at_next, FirstPass.behaviours_in, FirstPass.open_after, FirstPass.opened, FirstPass.placed, Inside.AreCases, Inside.MadeView, Inside.MakeScripts, Inside.MayEnd, Inside.WalkView, Inside.after, Inside.all_filled, Inside.begins, Inside.case_fault, Inside.called as after_call, Inside.case_ended, Inside.case_left, Inside.ended, Inside.fault_at_end, Inside.fault_in, Inside.finished, Inside.first_wrong, Inside.head_fault, Inside.made_step, Inside.names_of, Inside.or_fault, Inside.start_kind, Inside.started_of, Inside.with_last, Inside.with_start, Inside.with_step, Names.Word, Names.add, Names.among, Scope.Head, Scope.behaviours_before, Scope.bound, Scope.cases_before, Inside.heads, Scope.heads_around, Scope.heads_with, Scope.with_bound, SecondPass.is_unbound, SecondPass.misnamed, SecondPass.name_fault, declared.fault.ScriptFault.ScriptFault, declared.kind.ScriptKind.ScriptKind, declared.line.Call.Call, declared.line.Line.Line, declared.counts.Open.Open, declared.made.Start.Start}
 use Rattle.tc_reader.proofs.{Binding.{add_named, head_is, head_more}, Making.{all_fill, called, called_in}, Placed.{AllPlaced, few_behaviours, in_behaviour, not_nothing}, Sound.{MakesScripts, are_cases, are_placed, onto, scripts_are}}
 
 -- ---- faults
@@ -408,7 +408,6 @@ pub cases_end : (w : WalkView) (past : List Line) → IsWalked w past → fault_
 cases_end w past is none = cases_at_end w past is none ∙ ap (λ (m : MadeView). m.done) (sym (end_made_is w none))
 
 case_begun : (n : Word) (number : ℕ) (w : WalkView) (past : List Line) → IsWalked w past → fault_at_end w ≡ None → IsInCase (after number (Line.TestCase n) w) (Line.TestCase n ∷ past) n
-unfolding heads
 case_begun n number w past is none = record {
   body = [];
   cases_are = λ rest.
@@ -420,7 +419,7 @@ case_begun n number w past is none = record {
 
 walked_case : (n : Word) (w : WalkView) (past : List Line) → IsWalked w past → placed past (Line.TestCase n) ≡ Ok (Line.TestCase n)
     → IsWalked (after (length past + 1) (Line.TestCase n) w) (Line.TestCase n ∷ past)
-unfolding behaviours_in opened heads
+unfolding behaviours_in opened
 walked_case n w past is at =
     let l : Line = Line.TestCase n in
     let wrong = first_wrong w.names.heads w.starts in

@@ -2,7 +2,7 @@
 use Rattle.std.specs.{Prelude.{ℕ, Result, Ok, Err, List, [], ◌∷◌, length, map, ◌≡◌, false, ◌≤◌, Some, IfSome, slice_get, All}, Option.{option_map_or, option_map}}
 use Rattle.tc_step.specs.{declared.{place.Place.Place, step.Step.Step}, Prelude.{place_map, group_map, target_map, ScriptView}}
 use Rattle.tc_entry.specs.declared.limits.TheConstants.{BEHAVIOURS}
-use Rattle.tc_reader.specs.{FirstPass.parsed, Line.◌>>=◌, Names.{Word, all_of, has_twice, index_of}, Scope.{Head, heads, with_bound}, SecondPass.misnamed, Text.lines, declared.{fault.{ReadFault.ReadFault, ScriptFault.ScriptFault}, line.{Call.Call, Line.Line}}}
+use Rattle.tc_reader.specs.{FirstPass.parsed, Line.◌>>=◌, Names.{Word, all_of, has_twice, index_of}, Scope.{Head, heads_with, with_bound}, SecondPass.misnamed, Text.lines, declared.{fault.{ReadFault.ReadFault, ScriptFault.ScriptFault}, line.{Call.Call, Line.Line}}}
 
 -- ---- steps
 
@@ -40,7 +40,7 @@ behaviours hs (_ ∷ rest) = behaviours hs rest
 -- the test cases, in the order of the text
 abbrev pub cases : List Line → List (Word × List (Word × ScriptView))
 cases [] = []
-cases (Line.TestCase n ∷ rest) = (n, behaviours (heads rest) rest) ∷ cases rest
+cases (Line.TestCase n ∷ rest) = (n, behaviours (heads_with [] rest) rest) ∷ cases rest
 cases (_ ∷ rest) = cases rest
 
 -- ---- a whole text

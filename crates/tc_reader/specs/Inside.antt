@@ -1,9 +1,9 @@
 -- What the walk over the lines of a script has found so far, and what one more line makes of it; and what else the
 -- functions inside say.
-use Rattle.std.specs.{Prelude.{◌+◌, ◌≡◌, ◌||◌, nat_le, nat_lt, Bool, if◌then◌else◌, Result, Ok, Err, List, [], ◌∷◌, ◌++◌, length, ℕ, ◌==◌, ◌&&◌, not, is_some, Option, Some, None, map, ◌≤◌, ◌<◌, false, All, codes}, List.list_any, Option.{option_map, option_map_or, option_or}, Result.result_map_both}
+use Rattle.std.specs.{Prelude.{◌+◌, ◌-◌, ◌≡◌, ◌||◌, nat_le, nat_lt, Bool, if◌then◌else◌, Result, Ok, Err, List, [], ◌∷◌, ◌++◌, length, ℕ, ◌==◌, ◌&&◌, not, is_some, Option, Some, None, map, ◌≤◌, ◌<◌, false, All, codes, take, slice_index}, List.list_any, Option.{option_map, option_map_or, option_or}, Result.result_map_both}
 use Rattle.tc_entry.specs.declared.limits.TheConstants.{ARGUMENTS, BEHAVIOURS}
 use Rattle.tc_step.specs.{declared.{limits.TheConstants.STEPS, place.{Place.Place, TargetPlace.TargetPlace}, step.{Status.Status, Step.Step}}, Prelude.{of_group, of_target, target_map, IsScript, ScriptView}}
-use Rattle.tc_reader.specs.{Campaign.{CampaignView, IsCase, place, step_of, steps}, FirstPass.{argument_count, at_next, behaviours_in, cases_in, open_after, opened, placed, steps_in}, Line.{line_of, word_name, ◌>>=◌}, Names.{Word, add, all_of, among, has_twice, index_of}, Scope.{Head, heads, parameters_of, with_bound}, SecondPass.is_unbound, declared.{counts.{Counts.Counts, Open.Open, TheConstants.TEST_CASES}, fault.{ReadFault.ReadFault, ScriptFault.ScriptFault}, kind.ScriptKind.ScriptKind, line.{Call.Call, Keyword.Keyword, Line.Line}, made.Start.Start}}
+use Rattle.tc_reader.specs.{Campaign.{CampaignView, IsCase, place, step_of, steps}, FirstPass.{argument_count, at_next, behaviours_in, cases_in, open_after, opened, placed, steps_in}, Line.{line_of, ◌>>=◌}, Names.{Word, add, all_of, among, has_twice, index_of}, Scope.{Head, heads_with, parameters_of, with_bound}, SecondPass.is_unbound, declared.{counts.{Counts.Counts, Open.Open, TheConstants.TEST_CASES}, fault.{ReadFault.ReadFault, ScriptFault.ScriptFault}, kind.ScriptKind.ScriptKind, line.{Call.Call, Keyword.Keyword, Line.Line}, made.Start.Start}}
 
 -- the behaviours of a test case: their names, and the numbers of their parameters
 abbrev pub signatures : List (Word × ScriptView) → List Head
@@ -42,6 +42,10 @@ with_counts counts (Err e) = Err e
 -- the text may end here
 abbrev pub may_end : Counts → Bool
 may_end s = is_some (open_after (Line.TestCase []) s.state) && nat_lt 0 s.cases
+
+-- the behaviours of the test case whose lines these begin with
+abbrev pub heads : List Line → List Head
+heads rest = heads_with [] rest
 
 -- their names
 abbrev pub names_of : List Head → List Word
@@ -324,9 +328,9 @@ AreCases [] = Unit {0}
 AreCases (Line.TestCase n ∷ rest) = (length (heads rest) ≤ BEHAVIOURS) × AreScripts (heads rest) rest × AreCases rest
 AreCases (_ ∷ rest) = AreCases rest
 
--- the line of a create that binds the word r, and gives the component the name l
-abbrev pub create_named : List ℕ → Bool → List ℕ → Result Line ScriptKind
-create_named r alive l = word_name r >>= λ n. word_name l >>= λ m. Ok (Line.Step (Call.Create n alive (Some m)))
+-- a text without the LF at its end, if it has one
+abbrev pub without_end : List ℕ → List ℕ
+without_end text = if slice_index text (length text - 1) == 10 then take (length text - 1) text else text
 
 -- a line feed
 abbrev pub is_newline : ℕ → Bool

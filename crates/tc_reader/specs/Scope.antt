@@ -37,19 +37,16 @@ Head = Word × ℕ
 unfoldable pub parameters_of : Word → List Head → Option ℕ
 parameters_of n hs = lookup (is_text n) hs
 
--- with the behaviours of these lines after them, up to the next test case, and of each name the first
+-- with the behaviours of these lines after them, up to the next test case, and of each name the first: after none, those of
+-- the test case whose lines these begin with
 abbrev pub heads_with : List Head → List Line → List Head
 heads_with hs [] = hs
 heads_with hs (Line.TestCase n ∷ rest) = hs
 heads_with hs (Line.Behaviour n ps ∷ rest) = heads_with (if is_some (parameters_of n hs) then hs else hs ++ (n, length ps) ∷ []) rest
 heads_with hs (_ ∷ rest) = heads_with hs rest
 
--- the behaviours of the test case whose lines these begin with
-unfoldable pub heads : List Line → List Head
-heads rest = heads_with [] rest
-
 -- the behaviours of the test case that the lines before have begun
 abbrev pub heads_around : List Line → List Line → List Head
 heads_around [] rest = []
-heads_around (Line.TestCase n ∷ past) rest = heads rest
+heads_around (Line.TestCase n ∷ past) rest = heads_with [] rest
 heads_around (l ∷ past) rest = heads_around past (l ∷ rest)

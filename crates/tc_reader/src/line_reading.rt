@@ -1,6 +1,6 @@
 //! A line is read as its form, or by its first fault.
 ghost use Rattle.std.specs.Prelude.{◌≡◌, ◌∷◌, [], map};
-ghost use Rattle.tc_reader.specs.{Inside.create_named, Line.Gives, Line.are_printable, Line.create, Line.each, Line.form, Line.group_named, Line.is_comment as comment, Line.line_of, Line.reference, Line.target_named, Line.word_name};
+ghost use Rattle.tc_reader.specs.{Line.Gives, Line.are_printable, Line.create, Line.each, Line.form, Line.group_named, Line.is_comment as comment, Line.line_of, Line.reference, Line.target_named, Line.word_name};
 
 use crate::kind::{LineFault, ScriptKind};
 use crate::line::{Call, Keyword, Line};
@@ -58,31 +58,22 @@ fn read_target(word: &[u8]) -> Result<TargetPlace<Place<Name>>, ScriptKind>
     Ok(TargetPlace::One(read_reference(word)?))
 }
 
-fn read_named_create(word: &[u8], alive: bool, given: &[u8]) -> Result<Line, LineFault>
-    ensures { Gives result (create_named word.now alive given.now) }
+// The create that binds the word, by the words after it and after `alive`.
+fn read_create_of(word: &[u8], alive: bool, rest: &[&[u8]]) -> Result<Line, LineFault>
+    ensures { Gives result (create word.now alive (map (λ w. w.now) rest.now)) }
 {
+    let given = match rest {
+        [] => None,
+        [says, given] if is_word(says, b"named") => Some(*given),
+        _ => return Err(LineFault::Kind(ScriptKind::BadLine)),
+    };
     let name = read_named(word)?;
-    let given_name = Some(read_named(given)?);
+    let given_name = given.map(read_named).transpose()?;
     Ok(Line::Step(Call::Create {
         name,
         alive,
         given_name,
     }))
-}
-
-// The create that binds the word, by the words after it and after `alive`.
-fn read_create_of(word: &[u8], alive: bool, rest: &[&[u8]]) -> Result<Line, LineFault>
-    ensures { Gives result (create word.now alive (map (λ w. w.now) rest.now)) }
-{
-    match rest {
-        [] => Ok(Line::Step(Call::Create {
-            name: read_named(word)?,
-            alive,
-            given_name: None,
-        })),
-        [says, given] if is_word(says, b"named") => read_named_create(word, alive, given),
-        _ => Err(LineFault::Kind(ScriptKind::BadLine)),
-    }
 }
 
 #[tactic(auto, unfolding(crate::specs::Line::form))]

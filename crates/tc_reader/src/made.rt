@@ -4,7 +4,7 @@ ghost use Rattle.std.specs.Option.{option_map};
 ghost use Rattle.tc_entry.specs.declared.limits.TheConstants.{BEHAVIOURS};
 ghost use Rattle.tc_reader.specs.Inside.{MakeScripts, MakesScript, all_filled, behaviour_ended, case_ended, case_left, filled, finished, first_wrong as the_first_wrong, left_of, start_kind, started_of, with_last, with_step};
 
-use crate::campaign::{Campaign, CaseScript};
+use crate::campaign::CaseScript;
 use crate::fault::ScriptFault;
 use crate::names::Heads;
 use crate::{Name, Script, ScriptKind, Step};
@@ -87,10 +87,10 @@ impl Model for Draft {
 /// The test cases before, the name of the one that is open, its behaviours before, and the one that is open.
 #[derive(Drop)]
 pub(crate) struct Made {
-    done: VecDeque<(Name, CaseScript)>,
-    case: Option<Name>,
-    drafts: Vec<Draft>,
-    current: Option<Draft>,
+    pub done: VecDeque<(Name, CaseScript)>,
+    pub case: Option<Name>,
+    pub drafts: Vec<Draft>,
+    pub current: Option<Draft>,
 }
 
 impl Model for Made {
@@ -102,24 +102,6 @@ impl Model for Made {
 }
 
 impl Draft {
-    fn push(&mut self, step: Step) -> Result<(), AllocError>
-        ensures { OnOk result (self.new ≡ with_step step self.old) }
-    {
-        self.steps.push(step)?;
-        Ok(())
-    }
-
-    // Sets the runs of its starts, which are the first of these; and the others are left.
-    fn fill<'s>(&mut self, heads: &Heads, starts: &'s [Start]) -> &'s [Start]
-        requires few { length heads.now ≤ BEHAVIOURS }
-        ensures name { self.new.0 ≡ self.old.0 }
-        ensures script { self.new.1
-            ≡ record { parameters = self.old.1.parameters; steps = filled heads.now self.old.1.steps (started_of starts.now) } }
-        ensures left { started_of result.now ≡ left_of self.old.1.steps (started_of starts.now) }
-    {
-        fill(heads, &mut self.steps, starts)
-    }
-
     /// Its name, and its script.
     pub(crate) fn into_script(self) -> (Name, Script)
         requires { MakesScript self }
@@ -141,7 +123,7 @@ fn fill_all(heads: &Heads, drafts: &mut [Draft], starts: &[Start])
 {
     let mut rest = starts;
     for draft in drafts.iter_mut() {
-        rest = draft.fill(heads, rest);
+        rest = fill(heads, &mut draft.steps, rest);
     }
 }
 
@@ -159,26 +141,14 @@ fn case_of(heads: &Heads, drafts: Vec<Draft>, starts: &[Start]) -> CaseScript
 }
 
 impl Made {
-    /// Nothing.
-    pub(crate) fn new(alloc: Global) -> Made
-        ensures { result ≡ record { done = []; case = None; drafts = []; current = None } }
-    {
-        Made {
-            done: VecDeque::new(alloc),
-            case: None,
-            drafts: Vec::new(alloc),
-            current: None,
-        }
-    }
-
     /// Adds a step to the behaviour that is open.
     pub(crate) fn add_step(&mut self, step: Step) -> Result<(), AllocError>
         ensures { OnOk result (self.new ≡ record self.old { current = option_map (with_step step) self.old.current }) }
     {
-        match &mut self.current {
-            Some(draft) => draft.push(step),
-            None => Ok(()),
+        if let Some(draft) = &mut self.current {
+            draft.steps.push(step)?;
         }
+        Ok(())
     }
 
     /// Ends the behaviour that is open.
@@ -212,13 +182,6 @@ impl Made {
         Ok(())
     }
 
-    /// Begins a test case, where none is open.
-    pub(crate) fn begin_case(&mut self, name: &Name)
-        ensures { self.new ≡ record self.old { case = Some name.now } }
-    {
-        self.case = Some(name.copy());
-    }
-
     /// Ends the test case that is open, whose starts these are.
     pub(crate) fn end_case(
         &mut self,
@@ -249,13 +212,5 @@ impl Made {
         self.case = None;
         self.drafts.clear();
         self.current = None;
-    }
-
-    /// The test cases that have ended.
-    pub(crate) fn into_campaign(self) -> Campaign
-        ensures { result ≡ self.done }
-    {
-        let Made { done, .. } = self;
-        Campaign { cases: done }
     }
 }

@@ -8,22 +8,6 @@ use crate::spelling::read_name;
 use tc_entry::UserVerdict;
 use tc_step::{Place, Status, TargetPlace};
 
-/// The verdict call that the line is, if one space is between its words and none around them.
-#[inline(always)]
-#[tactic(auto, using(crate::proofs::Stepping::verdict_rules))]
-fn plain_verdict(line: &[u8]) -> Option<Step>
-    ensures { (ns : List (List ℕ)) → IfSome result (λ step. IsStepOf ns line.now step) }
-{
-    match line {
-        b"getverdict" => Some(Step::GetVerdict),
-        b"setverdict pass" => Some(Step::SetVerdict(UserVerdict::Pass)),
-        b"setverdict fail" => Some(Step::SetVerdict(UserVerdict::Fail)),
-        b"setverdict none" => Some(Step::SetVerdict(UserVerdict::None)),
-        b"setverdict inconc" => Some(Step::SetVerdict(UserVerdict::Inconc)),
-        _ => None,
-    }
-}
-
 /// What the line asks, and the bytes after the space.
 #[inline(always)]
 fn plain_status(line: &[u8]) -> Option<(Status, &[u8])>
@@ -100,11 +84,18 @@ pub(crate) fn plain_step(bound: &Names, line: &[u8]) -> Option<Step>
     if let Some((status, word)) = plain_status(line) {
         return Some(Step::Ask(status, plain_target(bound, word)?));
     }
-    match plain_wait(line) {
-        Some(word) => Some(Step::Wait {
+    if let Some(word) = plain_wait(line) {
+        return Some(Step::Wait {
             killed: false,
             target: plain_target(bound, word)?,
-        }),
-        None => plain_verdict(line),
+        });
+    }
+    match line {
+        b"getverdict" => Some(Step::GetVerdict),
+        b"setverdict pass" => Some(Step::SetVerdict(UserVerdict::Pass)),
+        b"setverdict fail" => Some(Step::SetVerdict(UserVerdict::Fail)),
+        b"setverdict none" => Some(Step::SetVerdict(UserVerdict::None)),
+        b"setverdict inconc" => Some(Step::SetVerdict(UserVerdict::Inconc)),
+        _ => None,
     }
 }

@@ -5,6 +5,7 @@ ghost use Rattle.tc_reader.specs.{Campaign.IsCase, Campaign.Reads, Campaign.camp
 use crate::campaign::Campaign;
 use crate::counts::{Counts, Open};
 use crate::fault::{ReadFault, ScriptFault};
+use crate::made::Made;
 use crate::plain::plain_step;
 use crate::walk::Walk;
 use crate::{LineFault, Lines, ScriptKind, is_comment, read_line};
@@ -59,24 +60,12 @@ fn take_line<'t>(
     if text.is_empty() || is_comment(text) {
         return Ok(());
     }
-    let Some(step) = plain_step(walk.names.bound(), text) else {
+    let Some(step) = plain_step(&walk.names.bound, text) else {
         return take_words(alloc, walk, counts, number, text, words);
     };
     match counts.take_step() {
         Ok(()) => Ok(walk.made.add_step(step)?),
         Err(kind) => Err(ReadFault::Script(ScriptFault { line: number, kind })),
-    }
-}
-
-#[tactic(auto, unfolding(crate::specs::FirstPass::opened, crate::specs::FirstPass::cases_in, crate::specs::FirstPass::behaviours_in, crate::specs::FirstPass::steps_in))]
-fn opening() -> Counts
-    ensures { result ≡ counts_of [] }
-{
-    Counts {
-        state: Open::Nothing,
-        cases: 0,
-        behaviours: 0,
-        steps: 0,
     }
 }
 
@@ -86,7 +75,12 @@ fn walk_lines(alloc: Global, text: &[u8], walk: &mut Walk) -> Result<(), ReadFau
     ensures answer { Reads (λ _. walk.new.made.done) result (campaign text.now) }
     ensures law { OnOk result (IsCampaign walk.new.made.done) }
 {
-    let mut counts = opening();
+    let mut counts = Counts {
+        state: Open::Nothing,
+        cases: 0,
+        behaviours: 0,
+        steps: 0,
+    };
     let mut words = Vec::new(alloc);
     let mut rest = Lines::new(text);
     let mut line = 1;
@@ -116,5 +110,6 @@ pub fn read_campaign(alloc: Global, bytes: &[u8]) -> Result<Campaign, ReadFault>
     let mut walk = Walk::new(alloc);
     walk_lines(alloc, bytes, &mut walk)?;
     let Walk { made, .. } = walk;
-    Ok(made.into_campaign())
+    let Made { done, .. } = made;
+    Ok(Campaign { cases: done })
 }

@@ -2,7 +2,7 @@
 ghost use Rattle.std.specs.Prelude.{◌≡◌, ◌≤◌, ◌<◌, ◌+◌, length, [], IfOk, OnOk, map, if◌then◌else◌, Some, None};
 ghost use Rattle.tc_entry.specs.declared.limits.TheConstants.{ARGUMENTS};
 ghost use Rattle.tc_step.specs.{Prelude.{of_group, of_target, group_map, target_map}, declared.limits.TheConstants.STEPS};
-ghost use Rattle.tc_reader.specs.{Campaign.place as the_place, FirstPass.argument_count, Inside.case_fault, Inside.head_fault, Inside.if_bound, Inside.made_step, Inside.names_after, Inside.step_if_bound, Names.all_of, Names.has_twice, SecondPass.is_unbound, declared.line.Line.Line};
+ghost use Rattle.tc_reader.specs.{Campaign.place as the_place, FirstPass.argument_count, Inside.head_fault, Inside.if_bound, Inside.made_step, Inside.names_after, Inside.step_if_bound, Names.all_of, Names.has_twice, SecondPass.is_unbound, declared.line.Line.Line};
 
 use crate::names::{Heads, Names, is_one_of};
 use crate::{Call, Name, ScriptKind, Step};
@@ -94,9 +94,9 @@ fn step_at(bound: &Names, call: &Call) -> Option<Step>
 /// The names that a line may not use again, and those that it may refer to.
 #[derive(Drop)]
 pub(crate) struct Scope {
-    cases: Names,
-    bound: Names,
-    heads: Heads,
+    pub cases: Names,
+    pub bound: Names,
+    pub heads: Heads,
 }
 
 impl Model for Scope {
@@ -133,42 +133,6 @@ fn bind_all(names: &mut Names, parameters: &[Name]) -> Result<(), AllocError>
 }
 
 impl Scope {
-    /// The names before the first line.
-    pub(crate) fn new(alloc: Global) -> Scope
-        ensures { result ≡ record { cases = []; bound = []; heads = [] } }
-    {
-        Scope {
-            cases: Names::new(alloc),
-            bound: Names::new(alloc),
-            heads: Heads::new(alloc),
-        }
-    }
-
-    /// The behaviours of the test case that is open.
-    pub(crate) fn heads(&self) -> &Heads
-        ensures { result.now ≡ self.now.heads }
-    {
-        &self.heads
-    }
-
-    /// What is bound.
-    #[inline(always)]
-    pub(crate) fn bound(&self) -> &Names
-        ensures { result.now ≡ self.now.bound }
-    {
-        &self.bound
-    }
-
-    /// Continues after the line that begins a test case. It answers what is wrong with the name.
-    pub(crate) fn take_case(&mut self, name: &Name) -> Result<Option<ScriptKind>, AllocError>
-        ensures fault { IfOk result (λ kind. kind ≡ case_fault self.old.cases name.now) }
-        ensures names { OnOk result (self.new ≡ names_after self.old (Line.TestCase name.now)) }
-    {
-        let is_new = self.cases.add(name.copy())?;
-        self.heads.clear();
-        Ok((!is_new).then_some(ScriptKind::Twice))
-    }
-
     /// Continues after the line that begins a behaviour. It answers what is wrong with the names.
     pub(crate) fn take_behaviour(
         &mut self,

@@ -1,6 +1,6 @@
 //! The words of the script language: keywords, names and verdicts.
 ghost use Rattle.std.specs.Prelude.{◌≡◌, Some};
-ghost use Rattle.tc_reader.specs.{Inside.keyword_text, Words.is_text, Words.keyword, Words.name, Words.verdict};
+ghost use Rattle.tc_reader.specs.{Words.is_text, Words.keyword, Words.name, Words.verdict};
 
 use crate::line::Keyword;
 use tc_entry::{Name, UserVerdict};
@@ -19,16 +19,9 @@ pub fn is_word(word: &[u8], spelling: &[u8]) -> bool
 impl Keyword {
     /// Its spelling.
     #[inline(always)]
-    #[tactic(auto, using(crate::proofs::Naming::spelled))]
+    #[tactic(auto, unfolding(crate::specs::Words::keyword, crate::specs::Words::is_text))]
     pub fn text(self) -> &'static str
         ensures { keyword result.now ≡ Some self }
-    {
-        self.spelling()
-    }
-
-    #[inline(always)]
-    fn spelling(self) -> &'static str
-        ensures { result.now ≡ keyword_text self }
     {
         match self {
             Keyword::TestCase => "testcase",

@@ -4,9 +4,11 @@ ghost use Rattle.tc_reader.specs.Inside.{IsWithin, MayEnd, after, begins, ended,
 
 use crate::fault::ScriptFault;
 use crate::made::{Made, Start, first_wrong};
+use crate::names::{Heads, Names};
 use crate::scope::Scope;
 use crate::{Call, Line, Name, ScriptKind};
 use std::alloc::{AllocError, Global};
+use std::collections::VecDeque;
 use std::marker::Model;
 
 /// The names so far, the first fault of names, the starts that are still to be looked up, and what is made.
@@ -32,10 +34,19 @@ impl Walk {
         ensures { result ≡ begins }
     {
         Walk {
-            names: Scope::new(alloc),
+            names: Scope {
+                cases: Names::new(alloc),
+                bound: Names::new(alloc),
+                heads: Heads::new(alloc),
+            },
             fault: None,
             starts: Vec::new(alloc),
-            made: Made::new(alloc),
+            made: Made {
+                done: VecDeque::new(alloc),
+                case: None,
+                drafts: Vec::new(alloc),
+                current: None,
+            },
         }
     }
 
@@ -83,31 +94,6 @@ impl Walk {
         Ok(())
     }
 
-    fn take_behaviour(
-        &mut self,
-        alloc: Global,
-        line: usize,
-        name: &Name,
-        parameters: &[Name],
-    ) -> Result<(), AllocError>
-        ensures { OnOk result (self.new ≡ after line (Line.Behaviour name.now parameters.now) self.old) }
-    {
-        let kind = self.names.take_behaviour(name, parameters)?;
-        self.note(line, kind);
-        self.made.begin_behaviour(alloc, name, parameters.len())
-    }
-
-    fn take_case(&mut self, alloc: Global, line: usize, name: &Name) -> Result<(), AllocError>
-        requires may_end { MayEnd self.old }
-        ensures { OnOk result (self.new ≡ after line (Line.TestCase name.now) self.old) }
-    {
-        self.end(alloc)?;
-        let kind = self.names.take_case(name)?;
-        self.note(line, kind);
-        self.made.begin_case(name);
-        Ok(())
-    }
-
     /// Continues after this line.
     pub(crate) fn take(
         &mut self,
@@ -123,9 +109,19 @@ impl Walk {
             Line::Step(call) => self.take_call(number, call),
             Line::Skipped => Ok(()),
             Line::End => self.made.end_behaviour(),
-            Line::TestCase(name) => self.take_case(alloc, number, name),
+            Line::TestCase(name) => {
+                self.end(alloc)?;
+                let is_new = self.names.cases.add(name.copy())?;
+                self.names.heads.clear();
+                self.note(number, (!is_new).then_some(ScriptKind::Twice));
+                self.made.case = Some(name.copy());
+                Ok(())
+            }
             Line::Behaviour(name, parameters) => {
-                self.take_behaviour(alloc, number, name, parameters.as_slice())
+                let kind = self.names.take_behaviour(name, parameters.as_slice())?;
+                self.note(number, kind);
+                self.made
+                    .begin_behaviour(alloc, name, parameters.as_slice().len())
             }
         }
     }
@@ -135,12 +131,12 @@ impl Walk {
         requires may_end { MayEnd self.old }
         ensures { OnOk result (self.new ≡ ended self.old) }
     {
-        self.fault = first_wrong(self.names.heads(), &self.starts).or(self.fault);
+        self.fault = first_wrong(&self.names.heads, &self.starts).or(self.fault);
         match self.fault {
             Some(_) => self.made.leave_case(),
             None => {
                 let starts = self.starts.as_slice();
-                self.made.end_case(alloc, self.names.heads(), starts)?;
+                self.made.end_case(alloc, &self.names.heads, starts)?;
             }
         }
         self.starts.clear();
