@@ -2,7 +2,7 @@
 use Rattle.std.{proofs.{Common.{ℕ, ◌≡◌, ◌≤◌, ◌∙◌, ◌+◌, ◌^◌, Bool, true, false, Option, Some, None, Result, Ok, Err, List, [], ◌∷◌, ◌++◌, length, refl, sym, ap, subst, arith, append_assoc}, lemmas.{Bool.Decides.nat_tests, List.{append-nil, reverse-append}}}, specs.{Prelude.{◌||◌, nat_le, nat_lt, reverse, if◌then◌else◌}, Option.option_map_or}}
 use Rattle.tc_entry.specs.declared.limits.TheConstants.{ARGUMENTS}
 use Rattle.tc_step.specs.declared.limits.TheConstants.{STEPS}
-use Rattle.tc_reader.specs.{Campaign.CampaignView, Campaign.Reads, Campaign.campaign, Campaign.cases, FirstPass.argument_count, Inside.judged, FirstPass.open_after, FirstPass.opened, FirstPass.parsed, FirstPass.steps_in, Inside.IsCampaign, Inside.IsWithin, Inside.MayTake, Inside.Takes, Inside.WalkView, Inside.after, Inside.begins, Inside.counted, Inside.counted_with, Inside.counts_of, Inside.ended, Inside.fault_at_end, Inside.fault_in, Inside.may_end as text_may_end, Line.line_of, Line.◌>>=◌, Scope.bound, SecondPass.misnamed, Text.lines as lines_of, declared.counts.Counts.Counts, declared.fault.ReadFault.ReadFault, declared.fault.ScriptFault.ScriptFault, declared.kind.ScriptKind.ScriptKind, declared.line.Line.Line, declared.counts.Open.Open}
+use Rattle.tc_reader.specs.{Campaign.CampaignView, Campaign.Reads, Campaign.campaign, Campaign.cases, FirstPass.argument_count, Inside.judged, FirstPass.open_after, FirstPass.parsed, FirstPass.steps_in, Inside.IsCampaign, Inside.IsWithin, Inside.MayTake, Inside.Takes, Inside.WalkView, Inside.after, Inside.begins, Inside.counted, Inside.counted_with, Inside.counts_of, Inside.ended, Inside.fault_at_end, Inside.fault_in, Inside.may_end as text_may_end, Line.line_of, Line.◌>>=◌, Scope.bound, SecondPass.misnamed, Text.lines as lines_of, declared.counts.Counts.Counts, declared.fault.ReadFault.ReadFault, declared.fault.ScriptFault.ScriptFault, declared.kind.ScriptKind.ScriptKind, declared.line.Line.Line, declared.counts.Open.Open}
 use Rattle.tc_reader.proofs.{Lawful.{case_names, cases_are}, Placed.few_names, Skipping.{Agrees, counted_agrees}, Sound.onto, Taking.few_lines, Walked.{IsWalked, all_cases, cases_end, may_end, named_end, walked_first, walked_more}}
 
 -- what was read of a text: some lines, after which these are left

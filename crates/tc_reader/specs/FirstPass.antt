@@ -1,5 +1,5 @@
 -- What is open at a line, and which lines are out of place. `past` lists the lines before, the newest first.
-use Rattle.std.specs.{Prelude.{ℕ, ◌+◌, ◌||◌, ◌&&◌, not, nat_le, nat_lt, Bool, true, false, if◌then◌else◌, Option, Some, None, is_some, Result, Ok, Err, List, [], ◌∷◌, length, reverse}, Option.unwrap_or, Result.result_map_both}
+use Rattle.std.specs.{Prelude.{ℕ, ◌+◌, ◌||◌, ◌&&◌, not, nat_le, nat_lt, Bool, false, if◌then◌else◌, Option, Some, None, is_some, Result, Ok, Err, List, [], ◌∷◌, length, reverse}, Option.unwrap_or, Result.result_map_both}
 use Rattle.tc_entry.specs.declared.limits.TheConstants.{ARGUMENTS, BEHAVIOURS}
 use Rattle.tc_step.specs.declared.limits.TheConstants.{STEPS}
 use Rattle.tc_reader.specs.{Line.{line_of, ◌>>=◌}, declared.{fault.ScriptFault.ScriptFault, kind.ScriptKind.ScriptKind, line.{Call.Call, Line.Line}, counts.Open.Open}}
