@@ -15,12 +15,6 @@ fn count_of(lefts: &[Left], run: u16) -> usize
     lefts.iter().filter(|left| left.run().0 == run).count()
 }
 
-fn are_within(lefts: &[Left], behaviours: u16) -> bool
-    ensures { IsTrue result ↔ All (λ l. l.run.0 < behaviours) lefts.now }
-{
-    lefts.iter().all(|left| left.run().0 < behaviours)
-}
-
 fn has_one_each(lefts: &[Left], behaviours: u16) -> bool
     ensures { IsTrue result ↔ ((b : ℕ) → b < behaviours → count_by (is_left_of b) lefts.now ≡ 1) }
 {
@@ -38,7 +32,7 @@ fn is_one_each(lefts: &[Left], behaviours: u16) -> bool
     if lefts.len() != usize::from(behaviours) {
         return false;
     }
-    if !are_within(lefts, behaviours) {
+    if !lefts.iter().all(|left| left.run().0 < behaviours) {
         return false;
     }
     has_one_each(lefts, behaviours)
@@ -66,17 +60,11 @@ fn is_placed(starts: &[Option<(Comp, Args)>], left: &Left) -> bool
         && is_silent_unstarted(left, comp_of(starts, left.run()))
 }
 
-fn all_placed(starts: &[Option<(Comp, Args)>], lefts: &[Left]) -> bool
-    ensures { IsTrue result ↔ All (IsPlaced starts.now) lefts.now }
-{
-    lefts.iter().all(|left| is_placed(starts, left))
-}
-
 /// Whether one of each run came back, as it was started.
 pub(crate) fn are_placed(behaviours: u16, starts: &[Option<(Comp, Args)>], lefts: &[Left]) -> bool
     ensures { IsTrue result ↔ ArePlaced behaviours starts.now lefts.now }
 {
-    is_one_each(lefts, behaviours) && all_placed(starts, lefts)
+    is_one_each(lefts, behaviours) && lefts.iter().all(|left| is_placed(starts, left))
 }
 
 /// Whether the word of a run agrees with the run's log.

@@ -1,9 +1,9 @@
 //! The calls of a case's runs on the book under its lock. Each that can change what others wait for gives whom to wake.
-ghost use Rattle.std.specs.Prelude.{◌≡◌, ◌≢◌, ◌||◌, true, false, IfOk, OnOk, OnErr, IfErr, IfSome, IfNone, OnSome, IsFalse, Some, None, [], is_none, not};
+ghost use Rattle.std.specs.Prelude.{◌≡◌, ◌≢◌, ◌||◌, true, false, IfOk, OnOk, OnErr, IfErr, IfSome, IfNone, OnSome, IsFalse, Some, None, [], is_none};
 ghost use Rattle.tc_rules.specs.Prelude.{is_ended, is_fault, is_ok, is_verdict_call};
 ghost use Rattle.tc_board.specs.{Prelude.answered, declared.answer.Answer.TheVariants.Met};
 ghost use Rattle.tc_rules.specs.History as history;
-ghost use Rattle.tc_book.specs.{Inside.{IsAwaitedIn, Replies.suits, StaysParked, goes_on}, OpenCase.{NobodyWakes, has_leave, open_past, places_after, with_entry, without_leave, without_wake}};
+ghost use Rattle.tc_book.specs.{Inside.{IsAwaitedIn, Replies.suits, StaysParked}, OpenCase.{NobodyWakes, has_leave, open_past, places_after, with_entry, without_leave, without_wake}};
 ghost use Rattle.tc_book.specs.OpenCase as cases;
 
 pub(crate) mod log;
@@ -11,7 +11,6 @@ pub(crate) mod log;
 use crate::book::Book;
 use crate::conditions::WakeUp;
 use crate::run_hand::RunHand;
-use crate::until::Until;
 use tc_entry::{Args, Comp, Op, Reply, Target};
 use tc_verdict::{NoMemory, Run};
 
@@ -69,13 +68,6 @@ impl GivenUp {
 }
 
 impl Book {
-    /// Whether a run keeps waiting under the lock.
-    pub(crate) fn waits(&self, run: Run, until: Until) -> bool
-        ensures { result ≡ not (goes_on self.now run until) }
-    {
-        !self.goes_on(run, until)
-    }
-
     /// Adds a call as `call` does, and returns its reply, and whom to wake.
     #[tactic(auto, using(crate::proofs::Keeping::answer_suits))]
     pub(crate) fn make(&mut self, run: Run, op: Op) -> Result<(Reply, WakeUp), NoMemory>

@@ -37,10 +37,7 @@ pub(crate) fn comp_of(starts: &[Option<(Comp, Args)>], run: Run) -> Option<Comp>
     if run.0 == 0 {
         return Some(Comp(0));
     }
-    match starts.get(usize::from(run.0)) {
-        Some(Some((comp, _))) => Some(*comp),
-        _ => None,
-    }
+    start_of(starts, run).map(|start| start.0)
 }
 
 /// Notes the run that an entry starts, unless it was started before.

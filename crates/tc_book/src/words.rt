@@ -129,10 +129,7 @@ impl Words {
     fn left_by(&self, last: Option<Run>) -> UserVerdict
         ensures { result ≡ inside.left_by self.now last }
     {
-        match last {
-            Some(run) => closing(self.record_of(run)),
-            None => UserVerdict::None,
-        }
+        last.map_or(UserVerdict::None, |run| closing(self.record_of(run)))
     }
 
     /// Begins the word of a run.

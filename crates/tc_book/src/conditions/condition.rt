@@ -37,7 +37,7 @@ impl Condition {
     {
         let run = self.run;
         self.changed
-            .wait_while(rt, book, |book| book.waits(run, until))
+            .wait_while(rt, book, |book| !book.goes_on(run, until))
     }
 
     /// Waits for ever, since by the book in this hold the run lacks what it would continue with, and that can't come.
