@@ -1,7 +1,7 @@
 -- What `serve` writes, prints and ends with.
 use Rattle.std.specs.{Prelude.{ℕ, ◌≡◌, Bool, true, if◌then◌else◌, List, Option, Result, Ok, Err}, Io.KnownBytes.Keeps}
 use Rattle.tc_report.specs.Prelude.{verdict_status}
-use Rattle.tc_serve.specs.{declared.service.{ServeFault.ServeFault, Ending.Ending, Served.Served}, Prelude.{IsServiceEnd, devices, refused_line_text}}
+use Rattle.tc_serve.specs.{declared.service.{ServeFault.ServeFault, Ending.Ending, Served.Served}, Prelude.{IsServiceEnd, refused_line_text}}
 use Rattle.tc_answer.specs.{declared.{fault.RunFault.RunFault, outcome.Outcome.Outcome}, Prelude.{run_fault_line, Streams, IsPrintedRefusal}}
 
 -- the line of a fault that ended a service
@@ -29,5 +29,5 @@ pub record Serves (input : Option (List ℕ)) (s : Streams) (outcome : Outcome) 
   pub left : Option (List ℕ)
   pub between : Option (List ℕ)
   pub ending : Ending
-  pub served : IsServiceEnd (devices input s.before s.untold) (devices left s.after between) ending
+  pub served : IsServiceEnd input left s.before s.after s.untold between ending
   pub settled : IsServiceStatus ending.told ending.outcome between s.told outcome

@@ -1,19 +1,20 @@
 -- What a line changes, and what it adds to the text.
-use Rattle.std.{proofs.{Common.{ℕ, ◌≡◌, ◌∙◌, ◌⊎◌, ◌<◌, ◌^◌, ◌&&◌, not, nat_lt, inl, inr, if◌then◌else◌, Bool, true, false, is_some, Option, Some, None, MatchOption, Result, Ok, Err, List, [], ◌∷◌, refl, ap, sym, subst, ◌+◌, ◌++◌, reverse, append_assoc, add-one, length, take, drop, take_at, zero, suc}, lemmas.List.{Concat.flat_map-append, append-nil, reverse-append, take-append-drop}}, specs.{List.{AllByRecursion, flat_map}, Option.option_map_or, Result.{result_map_both, result_unwrap_or}, Io.StartsWith}}
+use Rattle.std.{proofs.{Common.{ℕ, ◌≡◌, ◌∙◌, ◌<◌, ◌≤◌, ◌^◌, ◌&&◌, not, nat_lt, arith, if◌then◌else◌, Bool, true, false, is_some, Option, Some, None, MatchOption, Result, Ok, Err, List, [], ◌∷◌, refl, ap, sym, subst, ◌+◌, ◌++◌, reverse, append_assoc, add-one, length, take, drop, take_at, zero, suc}, lemmas.List.{Concat.flat_map-append, append-nil, reverse-append, take-append-drop}}, specs.{List.{AllByRecursion, flat_map}, Option.option_map_or, Result.{result_map_both, result_unwrap_or}, Io.StartsWith}}
 use Rattle.tc_rules.specs.{Prelude.{Run, Op, IsBehaviours, IsName, is_wake, overall, waiting, is_parked, wake_op}, declared.awaited.Awaited.Awaited}
 use Rattle.tc_text.specs.Prelude.{IsOp}
 use Rattle.tc_blocks.specs.{declared.line.Line.Line, Prelude.{is_met, IsSentence, end_text, with_lf, header_text, line_text, entries_of}}
-use Rattle.tc_serve.specs.{Inside.{with_line, woken_once, called}, Laws.{AllServed, asked_by}, Protocol.{AreServed, Came, Comes, IsOrder, Played, Sent, ServiceState, after_order, made, moved, sleep_of, was_done, was_lost, was_refused, why_text, with_added_line, with_current, with_name, with_open, played_past, woken, woken_from}, declared.order.{Order.Order, Refusal.Refusal}, Serve.{block, case_header, opened_text, stand_text}}
+use Rattle.tc_serve.specs.{Inside.{with_line, woken_once, called}, Laws.{AllServed, asked_by}, Protocol.{AreServed, Comes, IsOrder, Played, Sent, ServiceState, after_order, finished_state, made, moved, refused, why_text, with_added_line, with_name, played_past, woken, woken_from}, declared.order.{Order.Order, Refusal.Refusal}, Serve.{block, case_header, opened_text, stand_text}}
 
 abbrev pub new : List ℕ → ℕ → Played
 new name n = record { name = name; behaviours = n; lines = [] }
 
-abbrev pub without : ServiceState → Played → ServiceState
-without s p = record { closed = p ∷ s.closed; current = None }
+-- the state by the test cases that were closed and the one that is open
+abbrev pub stand : List Played → Option Played → ServiceState
+stand closed c = record { closed = closed; current = c }
 
 -- a client may make the call
 abbrev pub may_ask : Played → Run → Op → Bool
-may_ask p caller op = not (is_wake op) && not (is_some (sleep_of p caller.0))
+may_ask p caller op = not (is_wake op) && not (nat_lt caller.0 p.behaviours && is_some (waiting (played_past p) caller.0))
 
 -- the line, which is no entry, may be added
 abbrev pub may_add : Played → Line → Bool
@@ -29,50 +30,15 @@ IsNote (Line.Entry e) = ⊥
 IsNote (Line.Remark run sentence) = IsSentence sentence
 IsNote (Line.Refused run sentence) = (why : Refusal) × (sentence ≡ why_text why)
 
--- a test case is opened
-pub record Opens (asks : List Order) (s t : ServiceState) : Type 0 where
-  pub name : List ℕ
-  pub behaviours : ℕ
-  pub name_is : IsName name
-  pub few : IsBehaviours behaviours
-  pub none : s.current ≡ None
-  pub asked : asks ≡ Order.Case name behaviours ∷ []
-  pub is : with_current s (new name behaviours) ≡ t
-
--- a line that is no entry is added
-pub record AddsNote (asks : List Order) (s t : ServiceState) : Type 0 where
-  pub case : Played
-  pub line : Line
-  pub some : s.current ≡ Some case
-  pub may : may_add case line ≡ true
-  pub note : IsNote line
-  pub asked : asks ≡ asked_by line
-  pub is : with_current s (with_line case line) ≡ t
-
--- a move is made
-pub record Moves (asks : List Order) (s t : ServiceState) : Type 0 where
-  pub case : Played
-  pub caller : Run
-  pub op : Op
-  pub some : s.current ≡ Some case
-  pub may : may_ask case caller op ≡ true
-  pub low : caller.0 < 2 ^ 16
-  pub fits : IsOp op
-  pub asked : asks ≡ Order.Move caller op ∷ []
-  pub is : with_current s (moved case caller op) ≡ t
-
--- the test case is closed
-pub record Closes (asks : List Order) (s t : ServiceState) : Type 0 where
-  pub case : Played
-  pub some : s.current ≡ Some case
-  pub asked : asks ≡ Order.End ∷ []
-  pub is : without s case ≡ t
-
-abbrev pub Changed : List Order → ServiceState → ServiceState → Type 0
-Changed asks s t = Opens asks s t ⊎ (AddsNote asks s t ⊎ (Moves asks s t ⊎ (Closes asks s t ⊎ ((asks ≡ []) × (s ≡ t)))))
-
-same_ok : (x t : ServiceState) → ◌≡◌ {A = Result ServiceState Refusal} (Ok x) (Ok t) → x ≡ t
-same_ok x t e = cc
+-- what was asked for changes the state so: a test case is opened, a line that is no entry is added, a move is made, the test case is
+-- closed, or nothing changes
+pub data Changed : List Order → ServiceState → ServiceState → Type 0 where
+  opens : (closed : List Played) (name : List ℕ) (n : ℕ) → IsName name → IsBehaviours n → Changed (Order.Case name n ∷ []) (stand closed None) (stand closed (Some (new name n)))
+  adds : (closed : List Played) (p : Played) (l : Line) → may_add p l ≡ true → IsNote l → Changed (asked_by l) (stand closed (Some p)) (stand closed (Some (with_line p l)))
+  moves : (closed : List Played) (p : Played) (caller : Run) (op : Op) → may_ask p caller op ≡ true → caller.0 < 2 ^ 16 → IsOp op
+      → Changed (Order.Move caller op ∷ []) (stand closed (Some p)) (stand closed (Some (moved p caller op)))
+  closes : (closed : List Played) (p : Played) → Changed (Order.End ∷ []) (stand closed (Some p)) (stand (p ∷ closed) None)
+  stays : (s : ServiceState) → Changed [] s s
 
 -- ---- what may be done of the test case that is open
 
@@ -93,69 +59,55 @@ named_is run name p q e = by_tests (nat_lt run.0 p.behaviours) (is_met run.0 p.l
     by_tests false b e = absurd cc
 
 made_is : (caller : Run) (op : Op) (p q : Played) → made caller op p ≡ Ok q → (may_ask p caller op ≡ true) × (moved p caller op ≡ q)
-made_is caller op p q e = by_tests (is_wake op) (is_some (sleep_of p caller.0)) e
+made_is caller op p q e = by_tests (is_wake op) (nat_lt caller.0 p.behaviours && is_some (waiting (played_past p) caller.0)) e
   where
     by_tests : (a b : Bool) → ◌≡◌ {A = Result Played Refusal} (if a then Err Refusal.Wake else if b then Err Refusal.Waiting else Ok (moved p caller op)) (Ok q) → ((not a && not b) ≡ true) × (moved p caller op ≡ q)
     by_tests true b e = absurd cc
     by_tests false true e = absurd cc
     by_tests false false e = (refl, let same : moved p caller op ≡ q = cc in same)
 
--- the test case that is open became another
-record Became (s t : ServiceState) (change : Played → Result Played Refusal) : Type 0 where
-  case : Played
-  after : Played
-  some : s.current ≡ Some case
-  changed : change case ≡ Ok after
-  is : with_current s after ≡ t
-
-became : (s t : ServiceState) (change : Played → Result Played Refusal) (c : Option Played) → s.current ≡ c → result_map_both (with_current s) (λ why. why) (option_map_or change c (Err Refusal.NoCase)) ≡ Ok t → Became s t change
-became s t change None is e = absurd cc
-became s t change (Some p) is e = by_change (change p) refl e
-  where
-    by_change : (r : Result Played Refusal) → change p ≡ r → result_map_both (with_current s) (λ (why : Refusal). why) r ≡ Ok t → Became s t change
-    by_change (Err why) changed e = absurd cc
-    by_change (Ok q) changed e = record { case = p; after = q; some = is; changed = changed; is = same_ok (with_current s q) t e }
-
 -- ---- what is done
 
-noted : (asks : List Order) (s t : ServiceState) (l : Line) (change : Played → Result Played Refusal) → ((p q : Played) → change p ≡ Ok q → (may_add p l ≡ true) × (with_line p l ≡ q)) → IsNote l → asks ≡ asked_by l → with_open s change ≡ Ok t → Changed asks s t
-noted asks s t l change adds note asked e =
-    let so = became s t change s.current refl e in
-    let two = adds so.case so.after so.changed in
-    inr (inl (record { case = so.case; line = l; some = so.some; may = two.0; note = note; asked = asked; is = ap (with_current s) two.1 ∙ so.is }))
+module _ (closed : List Played) where
+  -- the test case that is open became another
+  became : (asks : List Order) (p t : Played) (r : Result Played Refusal) (s : ServiceState) → ((q : Played) → r ≡ Ok q → Changed asks (stand closed (Some p)) (stand closed (Some q))) →
+      result_map_both (λ q. stand closed (Some q)) (λ (why : Refusal). why) r ≡ Ok s → Changed asks (stand closed (Some p)) s
+  became asks p t (Err why) s change e = absurd cc
+  became asks p t (Ok q) s change e = let same : stand closed (Some q) ≡ s = cc in subst (Changed asks (stand closed (Some p))) same (change q refl)
 
-opened : (asks : List Order) (s t : ServiceState) (name : List ℕ) (n : ℕ) (c : Option Played) → IsName name → IsBehaviours n → asks ≡ Order.Case name n ∷ [] → s.current ≡ c →
-    ◌≡◌ {A = Result ServiceState Refusal} (if is_some c then Err Refusal.CaseOpen else Ok (with_current s (new name n))) (Ok t) → Changed asks s t
-opened asks s t name n None name_is few asked is e = inl (record { name = name; behaviours = n; name_is = name_is; few = few; none = is; asked = asked; is = same_ok (with_current s (new name n)) t e })
-opened asks s t name n (Some p) name_is few asked is e = absurd cc
+  -- by a line that is no entry
+  noted : (p q : Played) (l : Line) → (may_add p l ≡ true) × (with_line p l ≡ q) → IsNote l → Changed (asked_by l) (stand closed (Some p)) (stand closed (Some q))
+  noted p q l two is = subst (λ (x : Played). Changed (asked_by l) (stand closed (Some p)) (stand closed (Some x))) two.1 (adds closed p l two.0 is)
 
--- the test case that is open is closed, if one is
-abbrev pub closing : ServiceState → Option Played → Result ServiceState Refusal
-closing s c = option_map_or (λ p. Ok (without s p)) c (Err Refusal.NoCase)
+  -- by a move
+  asked : (p q : Played) (caller : Run) (op : Op) → (may_ask p caller op ≡ true) × (moved p caller op ≡ q) → (caller.0 < 2 ^ 16) × IsOp op → Changed (Order.Move caller op ∷ []) (stand closed (Some p)) (stand closed (Some q))
+  asked p q caller op two fits =
+      subst (λ (x : Played). Changed (Order.Move caller op ∷ []) (stand closed (Some p)) (stand closed (Some x))) two.1 (moves closed p caller op two.0 fits.0 fits.1)
 
-closed : (asks : List Order) (s t : ServiceState) (c : Option Played) → asks ≡ Order.End ∷ [] → s.current ≡ c → closing s c ≡ Ok t → Changed asks s t
-closed asks s t None asked is e = absurd cc
-closed asks s t (Some p) asked is e = inr (inr (inr (inl (record { case = p; some = is; asked = asked; is = same_ok (without s p) t e }))))
+  done : (c : Option Played) (t : ServiceState) (o : Order) → IsOrder o → after_order (stand closed c) o ≡ Ok t → Changed (o ∷ []) (stand closed c) t
+  done None t (Order.Case name n) fits e = let same : stand closed (Some (new name n)) ≡ t = cc in subst (Changed _ (stand closed None)) same (opens closed name n fits.0 fits.1)
+  done None t _ fits e = absurd cc
+  done (Some p) t (Order.Case name n) fits e = absurd cc
+  done (Some p) t (Order.Named run name) fits e = became _ p p (with_name run name p) t (λ q is. noted p q (Line.Named run name) (named_is run name p q is) fits.1) e
+  done (Some p) t (Order.Move caller op) fits e = became _ p p (made caller op p) t (λ q is. asked p q caller op (made_is caller op p q is) fits) e
+  done (Some p) t (Order.Remark run sentence) fits e =
+      became _ p p (with_added_line run (Line.Remark run sentence) p) t (λ q is. noted p q (Line.Remark run sentence) (added_is run (Line.Remark run sentence) p q is) fits.1) e
+  done (Some p) t Order.End fits e = let same : stand (p ∷ closed) None ≡ t = cc in subst (Changed _ (stand closed (Some p))) same (closes closed p)
 
-done : (s t : ServiceState) (o : Order) → IsOrder o → after_order s o ≡ Ok t → Changed (o ∷ []) s t
-done s t (Order.Case name n) fits e = opened _ s t name n s.current fits.0 fits.1 refl refl e
-done s t (Order.Named run name) fits e = noted _ s t (Line.Named run name) (with_name run name) (named_is run name) fits.1 refl e
-done s t (Order.Move caller op) fits e =
-    let so = became s t (made caller op) s.current refl e in
-    let two = made_is caller op so.case so.after so.changed in
-    inr (inr (inl (record { case = so.case; caller = caller; op = op; some = so.some; may = two.0; low = fits.0; fits = fits.1; asked = refl; is = ap (with_current s) two.1 ∙ so.is })))
-done s t (Order.Remark run sentence) fits e = noted _ s t (Line.Remark run sentence) (with_added_line run (Line.Remark run sentence)) (added_is run (Line.Remark run sentence)) fits.1 refl e
-done s t Order.End fits e = closed _ s t s.current refl refl e
+  refused_is : (c : Option Played) (t : ServiceState) (run : Run) (why : Refusal) → refused (stand closed c) run why ≡ Ok t → Changed [] (stand closed c) t
+  refused_is None t run why e = absurd cc
+  refused_is (Some p) t run why e =
+      let l = Line.Refused run (why_text why) in became [] p p (with_added_line run l p) t (λ q is. noted p q l (added_is run l p q is) (why, refl)) e
 
 -- what a line asked for that was done
-abbrev pub done_by : Came → List Order
-done_by (was_done o) = o ∷ []
-done_by _ = []
+abbrev pub done_by : Result Order (Refusal × Option Run) → List Order
+done_by (Ok o) = o ∷ []
+done_by (Err e) = []
 
-pub changes : (c : Came) (ended : Bool) (line : List ℕ) (s t : ServiceState) → Comes c ended line s t → Changed (done_by c) s t
-changes (was_done o) ended line s t came = done s t o came.0.1 came.1
-changes (was_refused run why) ended line s t came = noted [] s t (Line.Refused run (why_text why)) (with_added_line run (Line.Refused run (why_text why))) (added_is run (Line.Refused run (why_text why))) (why, refl) refl came.2
-changes (was_lost why) ended line s t came = inr (inr (inr (inr (refl, sym came.3))))
+pub changes : (c : Result Order (Refusal × Option Run)) (ended : Bool) (line : List ℕ) (s t : ServiceState) → Comes c ended line s t → Changed (done_by c) s t
+changes (Ok o) ended line s t came = done s.closed s.current t o came.0.1 came.1
+changes (Err (why, Some run)) ended line s t came = refused_is s.closed s.current t run why came.2
+changes (Err (why, None)) ended line s t came = subst (Changed [] s) (sym came.3) (stays s)
 
 -- ---- what holds of each test case
 
@@ -163,19 +115,19 @@ changes (was_lost why) ended line s t came = inr (inr (inr (inr (refl, sym came.
 abbrev pub AllOf : (Played → Type 0) → ServiceState → Type 0
 AllOf P s = AllByRecursion P s.closed × MatchOption s.current (Unit {0}) P
 
-pub of_current : (s : ServiceState) (p : Played) (P : Played → Type 0) → s.current ≡ Some p → MatchOption s.current (Unit {0}) P → P p
-of_current s p P some so = subst (λ (c : Option Played). MatchOption c (Unit {0}) P) some so
+-- the test case that is open is closed, if one is
+abbrev pub closing : ServiceState → Option Played → Result ServiceState Refusal
+closing s c = option_map_or (λ p. Ok (stand (p ∷ s.closed) None)) c (Err Refusal.NoCase)
 
 module _ (P : Played → Type 0) (at_first : (name : List ℕ) (n : ℕ) → IsName name → IsBehaviours n → P (new name n))
     (note : (p : Played) (l : Line) → may_add p l ≡ true → IsNote l → P p → P (with_line p l))
     (move : (p : Played) (caller : Run) (op : Op) → may_ask p caller op ≡ true → caller.0 < 2 ^ 16 → IsOp op → P p → P (moved p caller op)) where
   next : (asks : List Order) (s t : ServiceState) → AllOf P s → Changed asks s t → AllOf P t
-  next asks s t so (inl opens) = subst (AllOf P) opens.is (so.0, at_first opens.name opens.behaviours opens.name_is opens.few)
-  next asks s t so (inr (inl adds)) = subst (AllOf P) adds.is (so.0, note adds.case adds.line adds.may adds.note (of_current s adds.case P adds.some so.1))
-  next asks s t so (inr (inr (inl moves))) =
-      subst (AllOf P) moves.is (so.0, move moves.case moves.caller moves.op moves.may moves.low moves.fits (of_current s moves.case P moves.some so.1))
-  next asks s t so (inr (inr (inr (inl closes)))) = subst (AllOf P) closes.is ((of_current s closes.case P closes.some so.1, so.0), tt)
-  next asks s t so (inr (inr (inr (inr same)))) = subst (AllOf P) same.1 so
+  next _ _ _ so (opens closed name n is few) = (so.0, at_first name n is few)
+  next _ _ _ so (adds closed p l may is) = (so.0, note p l may is so.1)
+  next _ _ _ so (moves closed p caller op may low is) = (so.0, move p caller op may low is so.1)
+  next _ _ _ so (closes closed p) = ((so.1, so.0), tt)
+  next _ _ _ so (stays s) = so
 
   all : (lines : List Sent) (s : ServiceState) → AreServed lines s → AllOf P s
   all [] s served = subst (AllOf P) (sym served) (tt, tt)
@@ -188,11 +140,37 @@ module _ (P : Played → Type 0) (at_first : (name : List ℕ) (n : ℕ) → IsN
   pub all_served : AllServed P
   all_served lines s served = let so = all lines s served in at_end s s.current so.0 so.1
 
--- ---- how the text grows: a line adds to it, and changes none of it
+-- what follows of each holds of all
+pub also_served : (P Q : Played → Type 0) → ((p : Played) → P p → Q p) → AllServed P → AllServed Q
+also_served P Q follows so lines s served = each (finished_state s).closed (so lines s served)
+  where
+    each : (ps : List Played) → AllByRecursion P ps → AllByRecursion Q ps
+    each [] all = tt
+    each (p ∷ ps) all = (follows p all.0, each ps all.1)
+
+-- ---- runs that are woken
 
 -- one more run is woken, if it can continue
 pub woken_next : (n : ℕ) (lines : List Line) (k : ℕ) → woken n lines (k + 1) ≡ woken_once n (woken n lines k) k
 woken_next n lines k = ap (λ i. woken n lines i) (add-one k)
+
+-- what each wake of the first k runs keeps, which is not replied parked, all of these wakes keep
+module _ (P : List Line → Type 0) (n k : ℕ)
+    (one : (lines : List Line) (b : ℕ) (a : Awaited) → b < k → waiting (entries_of lines) b ≡ Some a → is_parked (called n lines (record { 0 = b }) (wake_op a)).reply ≡ false → P lines
+    → P (Line.Entry (called n lines (record { 0 = b }) (wake_op a)) ∷ lines)) where
+  one_woken : (lines : List Line) (b : ℕ) (o : Option Awaited) → b < k → waiting (entries_of lines) b ≡ o → P lines → P (woken_from n lines b o)
+  one_woken lines b None less is so = so
+  one_woken lines b (Some a) less is so = by_test (is_parked (called n lines (record { 0 = b }) (wake_op a)).reply) refl
+    where
+      by_test : (t : Bool) → is_parked (called n lines (record { 0 = b }) (wake_op a)).reply ≡ t → P (if t then lines else Line.Entry (called n lines (record { 0 = b }) (wake_op a)) ∷ lines)
+      by_test true parked = so
+      by_test false goes = one lines b a less is goes so
+
+  pub all_woken : (lines : List Line) (j : ℕ) → j ≤ k → P lines → P (woken n lines j)
+  all_woken lines zero within so = so
+  all_woken lines (suc j) within so = one_woken (woken n lines j) j (waiting (entries_of (woken n lines j)) j) (omega (arith, within)) refl (all_woken lines j (omega (arith, within)) so)
+
+-- ---- how the text grows: a line adds to it, and changes none of it
 
 -- what is appended to a text that grows
 pub appended : (before out written text more grown : List ℕ) → before ++ out ≡ text → written ≡ out ++ more → grown ≡ text ++ more → before ++ written ≡ grown
@@ -218,11 +196,8 @@ line_more l lines =
 abbrev pub closed_text : List Played → List ℕ
 closed_text ps = flat_map block (reverse ps)
 
-abbrev pub open_stand : List Played → Played → ServiceState
-open_stand closed p = record { closed = closed; current = Some p }
-
 -- what the lines of the open test case grow by the whole text does
-pub grows : (closed : List Played) (p : Played) (ls : List Line) (text : List ℕ) → lines_text ls ≡ lines_text p.lines ++ text → stand_text (open_stand closed (record p { lines = ls })) ≡ stand_text (open_stand closed p) ++ text
+pub grows : (closed : List Played) (p : Played) (ls : List Line) (text : List ℕ) → lines_text ls ≡ lines_text p.lines ++ text → stand_text (stand closed (Some (record p { lines = ls }))) ≡ stand_text (stand closed (Some p)) ++ text
 grows closed p ls text more =
     let head = with_lf (header_text (case_header p)) in
     ap (λ (l : List ℕ). closed_text closed ++ (head ++ l)) more
@@ -234,11 +209,11 @@ one_block ps p =
     ∙ (flat_map-append block (reverse ps) (p ∷ []) ∙ ap (λ (l : List ℕ). closed_text ps ++ l) (append-nil (block p)))
 
 -- the open test case is closed
-pub ends : (closed : List Played) (p : Played) → stand_text (record { closed = p ∷ closed; current = None }) ≡ stand_text (open_stand closed p) ++ with_lf (end_text (overall (played_past p)))
+pub ends : (closed : List Played) (p : Played) → stand_text (stand (p ∷ closed) None) ≡ stand_text (stand closed (Some p)) ++ with_lf (end_text (overall (played_past p)))
 ends closed p = append-nil (closed_text (p ∷ closed)) ∙ (one_block closed p ∙ sym (append_assoc (closed_text closed) (opened_text p) (with_lf (end_text (overall (played_past p))))))
 
 -- a test case is opened
-pub begins : (closed : List Played) (p : Played) → lines_text p.lines ≡ [] → stand_text (open_stand closed p) ≡ stand_text (record { closed = closed; current = None }) ++ with_lf (header_text (case_header p))
+pub begins : (closed : List Played) (p : Played) → lines_text p.lines ≡ [] → stand_text (stand closed (Some p)) ≡ stand_text (stand closed None) ++ with_lf (header_text (case_header p))
 begins closed p none =
     let head = with_lf (header_text (case_header p)) in
     ap (λ (l : List ℕ). closed_text closed ++ (head ++ l)) none
@@ -248,52 +223,20 @@ begins closed p none =
 abbrev Grows : List ℕ → List ℕ → Type 0
 Grows before after = (more : List ℕ) × (after ≡ before ++ more)
 
-grows_not : (a : List ℕ) → Grows a a
-grows_not a = ([], sym (append-nil a))
-
 grows_on : (a b c : List ℕ) → Grows a b → Grows b c → Grows a c
 grows_on a b c p q = (p.0 ++ q.0, q.1 ∙ (ap (λ (l : List ℕ). l ++ q.0) p.1 ∙ append_assoc a p.0 q.0))
 
-one_line : (l : Line) (lines : List Line) → Grows (lines_text lines) (lines_text (l ∷ lines))
-one_line l lines = (with_lf (line_text l), line_more l lines)
-
-one_wake : (n : ℕ) (lines : List Line) (b : ℕ) (o : Option Awaited) → Grows (lines_text lines) (lines_text (woken_from n lines b o))
-one_wake n lines b None = grows_not (lines_text lines)
-one_wake n lines b (Some a) = by_test (is_parked (called n lines (record { 0 = b }) (wake_op a)).reply)
-  where
-    by_test : (t : Bool) → Grows (lines_text lines) (lines_text (if t then lines else Line.Entry (called n lines (record { 0 = b }) (wake_op a)) ∷ lines))
-    by_test true = grows_not (lines_text lines)
-    by_test false = one_line (Line.Entry (called n lines (record { 0 = b }) (wake_op a))) lines
-
-wakes : (n : ℕ) (lines : List Line) (k : ℕ) → Grows (lines_text lines) (lines_text (woken n lines k))
-wakes n lines zero = grows_not (lines_text lines)
-wakes n lines (suc k) = grows_on _ _ _ (wakes n lines k) (one_wake n (woken n lines k) k (waiting (entries_of (woken n lines k)) k))
-
--- the text by the test case that is open
-open_is : (s : ServiceState) (c : Option Played) → s.current ≡ c → stand_text (record { closed = s.closed; current = c }) ≡ stand_text s
-open_is s c is = ap (λ (x : Option Played). stand_text (record { closed = s.closed; current = x })) (sym is)
-
--- it has other lines
-with_lines : (s : ServiceState) (p : Played) (ls : List Line) → s.current ≡ Some p → Grows (lines_text p.lines) (lines_text ls) → Grows (stand_text s) (stand_text (with_current s (record p { lines = ls })))
-with_lines s p ls some more = (more.0, grows s.closed p ls more.0 more.1 ∙ ap (λ (l : List ℕ). l ++ more.0) (open_is s (Some p) some))
+-- the lines of the open test case grow by a call, and by the wakes after it
+called_more : (n : ℕ) (lines : List Line) (caller : Run) (op : Op) → Grows (lines_text lines) (lines_text (woken n (Line.Entry (called n lines caller op) ∷ lines) n))
+called_more n lines caller op =
+    all_woken (λ ls. Grows (lines_text lines) (lines_text ls)) n n (λ ls b a less is goes so. grows_on (lines_text lines) (lines_text ls) _ so (_, line_more _ ls)) _ n (omega arith) (_, line_more _ lines)
 
 grown : (asks : List Order) (s t : ServiceState) → Changed asks s t → Grows (stand_text s) (stand_text t)
-grown asks s t (inl opens) =
-    let p = new opens.name opens.behaviours in
-    let head = with_lf (header_text (case_header p)) in
-    subst (λ (x : ServiceState). Grows (stand_text s) (stand_text x)) opens.is (head, begins s.closed p refl ∙ ap (λ (l : List ℕ). l ++ head) (open_is s None opens.none))
-grown asks s t (inr (inl adds)) =
-    subst (λ (x : ServiceState). Grows (stand_text s) (stand_text x)) adds.is (with_lines s adds.case (adds.line ∷ adds.case.lines) adds.some (one_line adds.line adds.case.lines))
-grown asks s t (inr (inr (inl moves))) =
-    let p = moves.case in
-    let call = Line.Entry (called p.behaviours p.lines moves.caller moves.op) in
-    subst (λ (x : ServiceState). Grows (stand_text s) (stand_text x)) moves.is
-    (with_lines s p (woken p.behaviours (call ∷ p.lines) p.behaviours) moves.some (grows_on _ _ _ (one_line call p.lines) (wakes p.behaviours (call ∷ p.lines) p.behaviours)))
-grown asks s t (inr (inr (inr (inl closes)))) =
-    let p = closes.case in
-    let text = with_lf (end_text (overall (played_past p))) in
-    subst (λ (x : ServiceState). Grows (stand_text s) (stand_text x)) closes.is (text, ends s.closed p ∙ ap (λ (l : List ℕ). l ++ text) (open_is s (Some p) closes.some))
-grown asks s t (inr (inr (inr (inr same)))) = subst (λ (x : ServiceState). Grows (stand_text s) (stand_text x)) same.1 (grows_not (stand_text s))
+grown _ _ _ (opens closed name n is few) = (_, begins closed (new name n) refl)
+grown _ _ _ (adds closed p l may is) = (_, grows closed p (l ∷ p.lines) _ (line_more l p.lines))
+grown _ _ _ (moves closed p caller op may low is) = let more = called_more p.behaviours p.lines caller op in (more.0, grows closed p (woken p.behaviours (Line.Entry (called p.behaviours p.lines caller op) ∷ p.lines) p.behaviours) more.0 more.1)
+grown _ _ _ (closes closed p) = (_, ends closed p)
+grown _ _ _ (stays s) = ([], sym (append-nil (stand_text s)))
 
-pub text_grows : (c : Came) (ended : Bool) (line : List ℕ) (s t : ServiceState) → Comes c ended line s t → (more : List ℕ) × (stand_text t ≡ stand_text s ++ more)
+pub text_grows : (c : Result Order (Refusal × Option Run)) (ended : Bool) (line : List ℕ) (s t : ServiceState) → Comes c ended line s t → (more : List ℕ) × (stand_text t ≡ stand_text s ++ more)
 text_grows c line_ended line s t came = grown _ s t (changes c line_ended line s t came)

@@ -1,9 +1,9 @@
 -- What is written is evidence of what was asked for.
-use Rattle.std.{proofs.{Common.{ℕ, ◌≡◌, ◌≢◌, ◌∙◌, ◌==◌, ◌||◌, ◌&&◌, ◌+◌, ◌<◌, ◌≤◌, ◌^◌, inr, not, nat_lt, if◌then◌else◌, zero, suc, Bool, true, false, IsTrue, Option, Some, None, List, [], ◌∷◌, ◌++◌, length, reverse, refl, ap, sym, subst, append_assoc, arith, inl, is_some}, lemmas.{Bool.Decides.nat_tests, List.{append-nil, reverse-append, reverse-reverse}}}, specs.{List.{All, AllByRecursion, flat_map, list_all, cons_option, filter_map}, Result.result_unwrap_or, Option.option_map_or}}
+use Rattle.std.{proofs.{Common.{ℕ, ◌≡◌, ◌≢◌, ◌∙◌, ◌==◌, ◌||◌, ◌&&◌, ◌+◌, ◌<◌, ◌≤◌, ◌^◌, inr, not, nat_lt, if◌then◌else◌, zero, suc, Bool, true, false, IsTrue, Option, Some, None, Result, Ok, Err, List, [], ◌∷◌, ◌++◌, length, reverse, refl, ap, sym, subst, append_assoc, arith, is_some}, lemmas.{Bool.Decides.nat_tests, List.{append-nil, reverse-append, reverse-reverse}}}, specs.{List.{All, AllByRecursion, flat_map, list_all, cons_option, filter_map, AllZip}, Result.{result_ok, result_unwrap_or}}}
 use Rattle.tc_rules.{specs.{Prelude.{Run, IsBehaviours, IsName, Comp, Entry, Op, Reply, answer, local_reply, plain_answer, comp_of, created, overall, awaited, holds, parks, waiting, is_parked, Fault, is_wake, IsLegal, wake_op}, declared.awaited.Awaited.Awaited}, proofs.Lemmas.{Deciding.{and_left, and_right}, Sound.{next, plain_if}, Stuck.and_split}}
 use Rattle.tc_text.specs.Prelude.{is_plain, IsOp, IsReply, IsTarget}
-use Rattle.tc_blocks.{specs.{Prelude.{end_text, AreEntries, IsEntry, with_lf, header_text, entries_of, is_about, is_met, IsSentence, AreBlocks, AreEvidence, AreLines, IsHeader, IsLine, block_lines, text_of_block, entry_in}, declared.{header.Kind.Kind, line.Line.Line}}, proofs.Lemmas.{Meeting.met_last, WrittenEvidence.written_evidence}}
-use Rattle.tc_serve.{specs.{Inside.{after_call, with_line, called}, Laws.{block_of, blocks_of, AllServed, IsSound, asked_by, asked_in, asked_of}, Protocol.{AreServed, Played, Sent, ServiceState, finished_state, moved, played_past, why_text, woken, woken_from, Came, done_of, sleep_of, was_done, was_lost, was_refused, with_current}, Serve.{block, case_header, stand_text}, declared.order.{Refusal.Refusal, Order.Order}}, proofs.Changes.{IsNote, all_served, closing, may_add, lines_text, Changed, changes, done_by, may_ask}}
+use Rattle.tc_blocks.{specs.{Prelude.{end_text, AreEntries, IsEntry, with_lf, header_text, entries_of, is_about, is_met, IsSentence, AreBlocks, AreEvidence, AreLines, IsHeader, IsLine, block_lines, text_of_block, entry_in}, declared.{block.Block.Block, header.Kind.Kind, line.Line.Line}}, proofs.Lemmas.{Meeting.met_last, WrittenEvidence.written_evidence}}
+use Rattle.tc_serve.{specs.{Inside.{after_call, with_line, called}, Laws.{AllServed, asked_by, asked_in, asked_of}, Protocol.{AreServed, Played, Sent, ServiceState, finished_state, moved, played_past, why_text, woken}, Serve.{block, case_header, stand_text}, declared.order.{Refusal.Refusal, Order.Order}}, proofs.Changes.{IsNote, adds, all_served, all_woken, also_served, closes, closing, may_add, moves, opens, lines_text, Changed, changes, done_by, may_ask, stays}}
 
 -- ---- the numbers of entries are those of their types
 
@@ -80,18 +80,11 @@ fit_more n lines l fit entries one = record { entries = entries; are = subst (Ar
 entry_more : (n : ℕ) (lines : List Line) (e : Entry) → Fit n lines → IsEntry 2 e → Fit n (Line.Entry e ∷ lines)
 entry_more n lines e fit is = fit_more n lines (Line.Entry e) fit (is, fit.entries) is
 
-one_fits : (n : ℕ) (lines : List Line) (b : ℕ) (o : Option Awaited) → b < 2 ^ 16 → waiting (entries_of lines) b ≡ o → Fit n lines → Fit n (woken_from n lines b o)
-one_fits n lines b None low is fit = fit
-one_fits n lines b (Some a) low is fit = by_test (is_parked (called n lines (record { 0 = b }) (wake_op a)).reply)
-  where
-    by_test : (t : Bool) → Fit n (if t then lines else Line.Entry (called n lines (record { 0 = b }) (wake_op a)) ∷ lines)
-    by_test true = fit
-    by_test false = entry_more n lines _ fit (entry_fits n lines (record { 0 = b }) (wake_op a) low (waiting_fits (entries_of lines) b a fit.entries is))
-
-woken_fits : (n : ℕ) (lines : List Line) (k : ℕ) → n ≤ 256 → k ≤ n → Fit n lines → Fit n (woken n lines k)
-woken_fits n lines zero few within fit = fit
-woken_fits n lines (suc k) few within fit =
-    one_fits n (woken n lines k) k (waiting (entries_of (woken n lines k)) k) (omega (arith, few, within)) refl (woken_fits n lines k few (omega (arith, within)) fit)
+woken_fits : (n : ℕ) (lines : List Line) → n ≤ 256 → Fit n lines → Fit n (woken n lines n)
+woken_fits n lines few fit =
+    all_woken (Fit n) n n
+    (λ ls b a less is goes so. entry_more n ls _ so (entry_fits n ls (record { 0 = b }) (wake_op a) (omega (arith, few, less)) (waiting_fits (entries_of ls) b a so.entries is)))
+    lines n (omega arith) fit
 
 -- ---- who was met does not depend on the order
 
@@ -145,7 +138,7 @@ note_fits p (Line.Refused run sentence) may fits is =
 move_fits : (p : Played) (caller : Run) (op : Op) → caller.0 < 2 ^ 16 → IsOp op → IsEvident p → IsEvident (moved p caller op)
 move_fits p caller op low fits is =
     evident p (woken p.behaviours (after_call p caller op) p.behaviours) is
-    (woken_fits p.behaviours (after_call p caller op) p.behaviours is.behaviours.1 (omega arith) (entry_more p.behaviours p.lines _ (fit_of p is) (entry_fits p.behaviours p.lines caller op low fits)))
+    (woken_fits p.behaviours (after_call p caller op) is.behaviours.1 (entry_more p.behaviours p.lines _ (fit_of p is) (entry_fits p.behaviours p.lines caller op low fits)))
 
 -- ---- the text
 
@@ -156,6 +149,23 @@ fit_append (x ∷ xs) ys a b = (a.0, fit_append xs ys a.1 b)
 fit_reverse : (xs : List Played) → AllByRecursion IsEvident xs → AllByRecursion IsEvident (reverse xs)
 fit_reverse [] a = a
 fit_reverse (x ∷ xs) a = rw (reverse-append (x ∷ []) xs) (fit_append (reverse xs) (x ∷ []) (fit_reverse xs a.1) (a.0, tt))
+
+-- the block of a test case, whose first line is the line of this number
+abbrev block_of : ℕ → Played → Block
+block_of line p = record { header = case_header p; first_line = line; lines = reverse p.lines; verdict = overall (played_past p) }
+
+-- the blocks of test cases, the first of which begins in this line
+abbrev blocks_of : ℕ → List Played → List Block
+blocks_of line [] = []
+blocks_of line (p ∷ ps) = block_of line p ∷ blocks_of (line + length (block_lines (block_of line p))) ps
+
+-- the block is that of the test case
+abbrev IsBlockOf : Played → Block → Type 0
+IsBlockOf p b = (b.header ≡ case_header p) × (b.lines ≡ reverse p.lines) × (b.verdict ≡ overall (played_past p))
+
+each_block : (line : ℕ) (ps : List Played) → AllZip IsBlockOf ps (blocks_of line ps)
+each_block line [] = tt
+each_block line (p ∷ ps) = ((refl, refl, refl), each_block (line + length (block_lines (block_of line p))) ps)
 
 block_is : (line : ℕ) (p : Played) → text_of_block (block_of line p) ≡ block p
 block_is line p = sym (append_assoc (with_lf (header_text (case_header p))) (lines_text p.lines) (with_lf (end_text (overall (played_past p)))))
@@ -189,143 +199,94 @@ closed_text : (s : ServiceState) → s.current ≡ None → stand_text s ≡ fla
 closed_text s none = ap (λ (c : Option Played). stand_text (record { closed = s.closed; current = c })) none ∙ append-nil (flat_map block (reverse s.closed))
 
 pub served_is_evidence : (lines : List Sent) (s : ServiceState) → AreServed lines s → (finished_state s).closed ≢ [] →
-    AreEvidence (stand_text (finished_state s)) (blocks_of 1 (reverse (finished_state s).closed))
+    (blocks : List Block) × AreEvidence (stand_text (finished_state s)) blocks × AllZip IsBlockOf (reverse (finished_state s).closed) blocks
 served_is_evidence lines s served some =
     let ps = reverse (finished_state s).closed in
     let are = all_served IsEvident (λ name n name_is few. record { name = name_is; behaviours = few; entries = tt; lines = tt }) note_fits (λ p caller op may. move_fits p caller op) lines s served in
-    let fit : AllByRecursion IsEvident ps = fit_reverse (finished_state s).closed are in
-    rw (closed_text (finished_state s) (none_left s s.current refl))
-    (rw (blocks_text 1 ps) at (written_evidence (blocks_of 1 ps) (some_blocks ps (some_reversed (finished_state s).closed some)) (are_blocks 1 ps fit)))
-
--- ---- wakes come of themselves
-
-one_woken : (n : ℕ) (lines : List Line) (b : ℕ) (o : Option Awaited) → flat_map asked_by (woken_from n lines b o) ≡ flat_map asked_by lines
-one_woken n lines b None = refl
-one_woken n lines b (Some a) = by_test (is_parked (called n lines (record { 0 = b }) (wake_op a)).reply)
-  where
-    by_test : (t : Bool) → flat_map asked_by (if t then lines else Line.Entry (called n lines (record { 0 = b }) (wake_op a)) ∷ lines) ≡ flat_map asked_by lines
-    by_test true = refl
-    by_test false = refl
-
-all_woken : (n : ℕ) (lines : List Line) (k : ℕ) → flat_map asked_by (woken n lines k) ≡ flat_map asked_by lines
-all_woken n lines zero = refl
-all_woken n lines (suc k) = one_woken n (woken n lines k) k (waiting (entries_of (woken n lines k)) k) ∙ all_woken n lines k
+    let fit : AllByRecursion IsEvident ps = fit_reverse (finished_state s).closed are in (
+      blocks_of 1 ps,
+      rw (closed_text (finished_state s) (none_left s s.current refl))
+          (rw (blocks_text 1 ps) at (written_evidence (blocks_of 1 ps) (some_blocks ps (some_reversed (finished_state s).closed some)) (are_blocks 1 ps fit))),
+      each_block 1 ps,
+    )
 
 -- ---- what is asked
 
 -- what asked for the test cases that were closed
-abbrev before : ServiceState → List Order
-before s = flat_map (λ p. Order.End ∷ asked_in p) s.closed
-
-abbrev asked_open : Option Played → List Order
-asked_open c = option_map_or asked_in c []
-
-is_current : (s : ServiceState) (c : Option Played) → s.current ≡ c → asked_open c ++ before s ≡ asked_of s
-is_current s c is = ap (λ (x : Option Played). asked_open x ++ before s) (sym is)
-
--- what is asked of the open test case
-of_case : (s : ServiceState) (p q : Played) (asks : List Order) → s.current ≡ Some p → asked_in q ≡ asks ++ asked_in p → asked_of (with_current s q) ≡ asks ++ asked_of s
-of_case s p q asks is asked =
-    ap (λ (l : List Order). l ++ before s) asked ∙ (append_assoc asks (asked_in p) (before s) ∙ ap (λ (l : List Order). asks ++ l) (is_current s (Some p) is))
+abbrev before : List Played → List Order
+before closed = flat_map (λ p. Order.End ∷ asked_in p) closed
 
 not_wake : (a b : Bool) → (not a && b) ≡ true → a ≡ false
 not_wake true b may = absurd cc
 not_wake false b may = refl
 
+-- wakes come of themselves
 of_move : (p : Played) (caller : Run) (op : Op) → may_ask p caller op ≡ true → asked_in (moved p caller op) ≡ Order.Move caller op ∷ asked_in p
 of_move p caller op may =
-    ap (λ (l : List Order). l ++ Order.Case p.name p.behaviours ∷ []) (all_woken p.behaviours (after_call p caller op) p.behaviours)
-    ∙ ap (λ (t : Bool). ((if t then [] else Order.Move caller op ∷ []) ++ flat_map asked_by p.lines) ++ Order.Case p.name p.behaviours ∷ []) (not_wake (is_wake op) (not (is_some (sleep_of p caller.0))) may)
+    ap (λ (l : List Order). l ++ Order.Case p.name p.behaviours ∷ [])
+    (all_woken (λ ls. flat_map asked_by ls ≡ flat_map asked_by (after_call p caller op)) p.behaviours p.behaviours (λ ls b a less is goes so. so) (after_call p caller op) p.behaviours (omega arith) refl)
+    ∙ ap (λ (t : Bool). ((if t then [] else Order.Move caller op ∷ []) ++ flat_map asked_by p.lines) ++ Order.Case p.name p.behaviours ∷ []) (not_wake (is_wake op) _ may)
 
 asked_next : (asks : List Order) (s t : ServiceState) → Changed asks s t → asked_of t ≡ asks ++ asked_of s
-asked_next asks s t (inl opens) =
-    subst (λ (x : ServiceState). asked_of x ≡ asks ++ asked_of s) opens.is
-    (subst (λ (l : List Order). Order.Case opens.name opens.behaviours ∷ before s ≡ l ++ asked_of s) (sym opens.asked) (ap (λ (l : List Order). Order.Case opens.name opens.behaviours ∷ l) (is_current s None opens.none)))
-asked_next asks s t (inr (inl adds)) =
-    let p = adds.case in
-    subst (λ (x : ServiceState). asked_of x ≡ asks ++ asked_of s) adds.is
-    (of_case s p (record p { lines = adds.line ∷ p.lines }) asks adds.some (append_assoc (asked_by adds.line) (flat_map asked_by p.lines) (Order.Case p.name p.behaviours ∷ []) ∙ ap (λ (l : List Order). l ++ asked_in p) (sym adds.asked)))
-asked_next asks s t (inr (inr (inl moves))) =
-    let p = moves.case in
-    subst (λ (x : ServiceState). asked_of x ≡ asks ++ asked_of s) moves.is
-    (of_case s p (moved p moves.caller moves.op) asks moves.some (of_move p moves.caller moves.op moves.may ∙ ap (λ (l : List Order). l ++ asked_in p) (sym moves.asked)))
-asked_next asks s t (inr (inr (inr (inl closes)))) =
-    subst (λ (x : ServiceState). asked_of x ≡ asks ++ asked_of s) closes.is
-    (subst (λ (l : List Order). Order.End ∷ (asked_in closes.case ++ before s) ≡ l ++ asked_of s) (sym closes.asked) (ap (λ (l : List Order). Order.End ∷ l) (is_current s (Some closes.case) closes.some)))
-asked_next asks s t (inr (inr (inr (inr same)))) =
-    subst (λ (x : ServiceState). asked_of x ≡ asks ++ asked_of s) same.1 (ap (λ (l : List Order). l ++ asked_of s) (sym same.0))
+asked_next _ _ _ (opens closed name n is few) = refl
+asked_next _ _ _ (adds closed p l may is) =
+    ap (λ (x : List Order). x ++ before closed) (append_assoc (asked_by l) (flat_map asked_by p.lines) (Order.Case p.name p.behaviours ∷ [])) ∙ append_assoc (asked_by l) (asked_in p) (before closed)
+asked_next _ _ _ (moves closed p caller op may low is) = ap (λ (x : List Order). x ++ before closed) (of_move p caller op may)
+asked_next _ _ _ (closes closed p) = refl
+asked_next _ _ _ (stays s) = refl
 
-one_done : (c : Came) (orders : List Order) → done_by c ++ orders ≡ cons_option (done_of c) orders
-one_done (was_done o) orders = refl
-one_done (was_refused run why) orders = refl
-one_done (was_lost why) orders = refl
+one_done : (c : Result Order (Refusal × Option Run)) (orders : List Order) → done_by c ++ orders ≡ cons_option (result_ok c) orders
+one_done (Ok o) orders = refl
+one_done (Err e) orders = refl
 
-pub evidence_is_asked : (lines : List Sent) (s : ServiceState) → AreServed lines s → asked_of s ≡ filter_map (λ l. done_of l.came) lines
+pub evidence_is_asked : (lines : List Sent) (s : ServiceState) → AreServed lines s → asked_of s ≡ filter_map (λ l. result_ok l.came) lines
 evidence_is_asked [] s served = ap asked_of served
 evidence_is_asked (l ∷ before) t served =
     asked_next (done_by l.came) served.0 t (changes l.came l.ended _ served.0 t served.4)
-    ∙ (ap (λ (x : List Order). done_by l.came ++ x) (evidence_is_asked before served.0 served.1) ∙ one_done l.came (filter_map (λ x. done_of x.came) before))
+    ∙ (ap (λ (x : List Order). done_by l.came ++ x) (evidence_is_asked before served.0 served.1) ∙ one_done l.came (filter_map (λ x. result_ok x.came) before))
 
 -- no wake is replied parked
 abbrev NoIdleWake : List Entry → Type 0
 NoIdleWake past = AllByRecursion (λ e. is_wake e.op ≡ true → is_parked e.reply ≡ false) past
 
 -- the entries among the lines are legal, and no wake is replied parked
-record Sound (n : ℕ) (lines : List Line) : Type 0 where
-  legal : IsLegal n (entries_of lines)
-  wakes : NoIdleWake (entries_of lines)
-
-one_legal : (n : ℕ) (lines : List Line) (b : ℕ) (o : Option Awaited) → IsLegal n (entries_of lines) → IsLegal n (entries_of (woken_from n lines b o))
-one_legal n lines b None legal = legal
-one_legal n lines b (Some a) legal = by_test (is_parked (called n lines (record { 0 = b }) (wake_op a)).reply)
-  where
-    by_test : (t : Bool) → IsLegal n (entries_of (if t then lines else Line.Entry (called n lines (record { 0 = b }) (wake_op a)) ∷ lines))
-    by_test true = legal
-    by_test false = (refl, legal)
+pub record Sound (n : ℕ) (lines : List Line) : Type 0 where
+  pub legal : IsLegal n (entries_of lines)
+  pub wakes : NoIdleWake (entries_of lines)
 
 pub all_legal : (n : ℕ) (lines : List Line) (k : ℕ) → IsLegal n (entries_of lines) → IsLegal n (entries_of (woken n lines k))
-all_legal n lines zero legal = legal
-all_legal n lines (suc k) legal = one_legal n (woken n lines k) k (waiting (entries_of (woken n lines k)) k) (all_legal n lines k legal)
-
-one_wakes : (n : ℕ) (lines : List Line) (b : ℕ) (o : Option Awaited) → NoIdleWake (entries_of lines) → NoIdleWake (entries_of (woken_from n lines b o))
-one_wakes n lines b None wakes = wakes
-one_wakes n lines b (Some a) wakes = by_test (is_parked (called n lines (record { 0 = b }) (wake_op a)).reply) refl
-  where
-    by_test : (t : Bool) → is_parked (called n lines (record { 0 = b }) (wake_op a)).reply ≡ t → NoIdleWake (entries_of (if t then lines else Line.Entry (called n lines (record { 0 = b }) (wake_op a)) ∷ lines))
-    by_test true parked = wakes
-    by_test false goes = (λ _. goes, wakes)
-
-all_wakes : (n : ℕ) (lines : List Line) (k : ℕ) → NoIdleWake (entries_of lines) → NoIdleWake (entries_of (woken n lines k))
-all_wakes n lines zero wakes = wakes
-all_wakes n lines (suc k) wakes = one_wakes n (woken n lines k) k (waiting (entries_of (woken n lines k)) k) (all_wakes n lines k wakes)
+all_legal n lines k legal = all_woken (λ ls. IsLegal n (entries_of ls)) n k (λ ls b a less is goes so. (refl, so)) lines k (omega arith) legal
 
 no_wake : (a b : Bool) → (not a && b) ≡ true → a ≡ true → ⊥
 no_wake true b may wake = absurd cc
 no_wake false b may wake = absurd cc
 
-made_sound : (p : Played) (caller : Run) (op : Op) → may_ask p caller op ≡ true → Sound p.behaviours p.lines → Sound p.behaviours (moved p caller op).lines
-made_sound p caller op may so = record {
-  legal = all_legal p.behaviours (after_call p caller op) p.behaviours (refl, so.legal);
-  wakes = all_wakes p.behaviours (after_call p caller op) p.behaviours (λ wake. absurd (no_wake (is_wake op) _ may wake), so.wakes);
-}
+pub made_sound : (p : Played) (caller : Run) (op : Op) → may_ask p caller op ≡ true → Sound p.behaviours p.lines → Sound p.behaviours (moved p caller op).lines
+made_sound p caller op may so =
+    all_woken (Sound p.behaviours) p.behaviours p.behaviours (λ ls b a less is goes was. record { legal = (refl, was.legal); wakes = (λ _. goes, was.wakes) }) (after_call p caller op) p.behaviours (omega arith)
+    (record { legal = (refl, so.legal); wakes = (λ wake. absurd (no_wake (is_wake op) _ may wake), so.wakes) })
 
 noted : (n : ℕ) (lines : List Line) (l : Line) → entry_in l ≡ [] → Sound n lines → Sound n (l ∷ lines)
 noted n lines l none so =
     let same : entries_of lines ≡ entries_of (l ∷ lines) = sym (ap (λ (es : List Entry). es ++ entries_of lines) none) in
     record { legal = subst (IsLegal n) same so.legal; wakes = subst NoIdleWake same so.wakes }
 
-sound : (p : Played) → IsSound p → Sound p.behaviours p.lines
-sound p so = record { legal = so.legal; wakes = so.wakes }
-
 pub no_entry : (p : Played) (l : Line) → may_add p l ≡ true → entry_in l ≡ []
 no_entry p (Line.Entry e) may = absurd cc
 no_entry p _ may = refl
 
-pub note_sound : (p : Played) (l : Line) → may_add p l ≡ true → IsSound p → IsSound (with_line p l)
-note_sound p l may so = let one = noted p.behaviours p.lines l (no_entry p l may) (sound p so) in record { legal = one.legal; wakes = one.wakes }
+pub note_sound : (p : Played) (l : Line) → may_add p l ≡ true → Sound p.behaviours p.lines → Sound p.behaviours (l ∷ p.lines)
+note_sound p l may so = noted p.behaviours p.lines l (no_entry p l may) so
 
-pub move_sound : (p : Played) (caller : Run) (op : Op) → may_ask p caller op ≡ true → IsSound p → IsSound (moved p caller op)
-move_sound p caller op may so = let one = made_sound p caller op may (sound p so) in record { legal = one.legal; wakes = one.wakes }
+-- each test case is
+abbrev pub IsSound : Played → Type 0
+IsSound p = Sound p.behaviours p.lines
 
 pub served_is_sound : AllServed IsSound
-served_is_sound = all_served IsSound (λ name n name_is few. record { legal = tt; wakes = tt }) (λ p l may note. note_sound p l may) (λ p caller op may low fits. move_sound p caller op may)
+served_is_sound = all_served IsSound (λ name n name_is few. record { legal = tt; wakes = tt }) (λ p l may note. note_sound p l may) (λ p caller op may low fits. made_sound p caller op may)
+
+pub served_is_legal : AllServed (λ p. IsLegal p.behaviours (played_past p))
+served_is_legal = also_served IsSound _ (λ p so. so.legal) served_is_sound
+
+pub no_idle_wake : AllServed (λ p. NoIdleWake (played_past p))
+no_idle_wake = also_served IsSound _ (λ p so. so.wakes) served_is_sound

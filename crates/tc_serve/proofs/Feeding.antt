@@ -1,7 +1,8 @@
 -- Lines that come in pieces, and what is read and written of them, turn by turn.
-use Rattle.std.{proofs.{Common.{ℕ, ◌≡◌, ◌≢◌, ◌∙◌, ◌==◌, ◌||◌, ◌+◌, ◌-◌, ◌<◌, ◌≤◌, inl, inr, if◌then◌else◌, Bool, true, false, is_some, Option, Some, None, Result, Ok, Err, MatchResult, List, [], ◌∷◌, ◌++◌, codes, zero, suc, length, take, get_or, refl, ap, sym, subst, append_assoc, arith, ◌^◌, ◌↔◌, ◌⊎◌, IfErr, zero-add, suc-add}, lemmas.{List.{append-nil, length-append, take_more}, Grind.common_steps}}, specs.{Fmt.decimal, Io.KnownBytes.{IsAtEnd, Appends, Consumes, Keeps}, List.list_all, Result.result_unwrap_or}}
-use Rattle.tc_serve.{specs.{Inside.{Closes, Counts, Fails, Feeds, IsAtLine, IsBadLine, IsEnd, IsFed, Serves, StandsAs, StopsIn, TakesPiece, TellsRun, Tries, TriesLine, is_refused, Hears, IsAt, IsOwn, IsTurn, IsTaken, end_told, IsNobodys}, Protocol.{AllEnded, Came, Comes, IsOf, IsOrderOf, NoLf, Refuses, Sent, ServiceState, after_order, finished_state, seen, was_done, was_lost, was_refused, why_text}, Serve.{HasEnded, IsWhy, served, stopped, bytes_of, lines_messages, lost_text, refused_line_text, worst_case, Devices, IsServiceEnd, devices}, declared.{service.{ServeFault.ServeFault, Served.Served, Ending.Ending}, order.{Order.Order, TheConstants.LINE_BYTES, Refusal.Refusal}, server.Server.Server, serving.Serving.Serving}}, proofs.Changes.appended}
+use Rattle.std.{proofs.{Common.{ℕ, ◌≡◌, ◌≢◌, ◌∙◌, ◌==◌, ◌||◌, ◌+◌, ◌-◌, ◌<◌, ◌≤◌, inl, inr, if◌then◌else◌, Bool, true, false, is_some, is_err, Option, Some, None, Result, Ok, Err, MatchResult, List, [], ◌∷◌, ◌++◌, codes, zero, suc, length, take, get_or, refl, ap, sym, subst, append_assoc, arith, ◌^◌, ◌↔◌, ◌⊎◌, IfErr, zero-add, suc-add}, lemmas.{List.{append-nil, length-append, take_more}, Grind.common_steps}}, specs.{Fmt.decimal, Io.KnownBytes.{IsAtEnd, Appends, Consumes, Keeps}, List.list_all, Result.result_unwrap_or}}
+use Rattle.tc_serve.{specs.{Inside.{Closes, Counts, Fails, Feeds, IsAtLine, IsBadLine, IsEnd, IsFed, Serves, StandsAs, StopsIn, TakesPiece, TellsRun, Tries, TriesLine, Hears, IsAt, IsOwn, IsTurn, IsTaken, end_told, IsNobodys}, Protocol.{AllEnded, Comes, IsOf, IsOrderOf, NoLf, Refuses, Sent, ServiceState, after_order, finished_state, seen, why_text}, Serve.{HasEnded, IsWhy, served, stopped, bytes_of, lines_messages, lost_text, refused_line_text, worst_case, IsServiceEnd}, declared.{service.{ServeFault.ServeFault, Served.Served, Ending.Ending}, order.{Order.Order, TheConstants.LINE_BYTES, Refusal.Refusal}, server.Server.Server, serving.Serving.Serving}}, proofs.Changes.appended}
 use Rattle.tc_stream.specs.Prelude.{AppendsPrefix}
+use Rattle.tc_rules.specs.Prelude.{Run}
 use Rattle.tc_rules.proofs.Lemmas.Deciding.{and_left, and_right}
 
 -- ---- lines
@@ -51,19 +52,19 @@ refusal_is told a b d e f n why one two three four five =
 
 -- ---- one line
 
-abbrev pub sent : List ℕ → Bool → Came → Sent
+abbrev pub sent : List ℕ → Bool → Result Order (Refusal × Option Run) → Sent
 sent line ended came = record { bytes = line; ended = ended; came = came }
 
 -- one more line, of which this came
-more : (ended : Bool) (line : List ℕ) (lines : List Sent) (s t : ServiceState) (v w : Serving) (came : Came) (before out written before' told told' : List ℕ) → IsAtLine line lines s v before out before' told →
-    Comes came ended (seen line) s t → StandsAs w.server t before written → w.lines ≡ v.lines + 1 → w.refused ≡ (is_refused came || v.refused) → told' ≡ told ++ lost_text (length lines + 1) came →
+more : (ended : Bool) (line : List ℕ) (lines : List Sent) (s t : ServiceState) (v w : Serving) (came : Result Order (Refusal × Option Run)) (before out written before' told told' : List ℕ) → IsAtLine line lines s v before out before' told →
+    Comes came ended (seen line) s t → StandsAs w.server t before written → w.lines ≡ v.lines + 1 → w.refused ≡ (is_err came || v.refused) → told' ≡ told ++ lost_text (length lines + 1) came →
     Counts w (sent line ended came ∷ lines) t before written before' told'
 more ended line lines s t v w came before out written before' told told' at_ comes stands many refuses tells = record {
   served = (s, at_.counts.served, at_.all, at_.last_is, comes);
   stands = stands;
   tells = appended before' told told' (lines_messages lines) _ _ at_.counts.tells tells refl;
   many = many ∙ ap (λ (n : ℕ). n + 1) at_.counts.many ∙ one_longer lines;
-  refused = refuses ∙ ap (λ (t : Bool). is_refused came || t) at_.counts.refused;
+  refused = refuses ∙ ap (λ (t : Bool). is_err came || t) at_.counts.refused;
 }
   where
     one_longer : (lines : List Sent) → length lines + 1 ≡ length (sent line ended came ∷ lines)
@@ -75,9 +76,9 @@ done_more ended v w server looked out written told tries same is many refuses li
     let so = tries s before at_.counts.stands in
     let kept : looked ≡ seen line = same ∙ at_.kept in
     let asks : IsOrderOf ended (seen line) so.0 = subst (λ (l : List ℕ). IsOrderOf ended l so.0) kept so.2 in (
-      was_done so.0,
+      Ok so.0,
       so.1,
-      more ended line lines s so.1 v w (was_done so.0) before out written before' told told at_ (asks, so.3)
+      more ended line lines s so.1 v w (Ok so.0) before out written before' told told at_ (asks, so.3)
           (subst (λ (x : Server). StandsAs x so.1 before written) (sym is) so.4) many refuses (sym (append-nil told)),
     )
 
@@ -89,9 +90,9 @@ module _ (ended : Bool) (v : Serving) (server server' : Server) (looked out mid 
       let kept : looked ≡ seen line = same ∙ at_.kept in
       let of_run : IsOf (seen line) so.0.0 = subst (λ (l : List ℕ). IsOf l so.0.0) kept so.2 in
       let nothing_asked : Refuses why ended (seen line) s = subst (λ (l : List ℕ). Refuses why ended l s) kept none.0 in (
-        was_refused so.0 why,
+        Err (why, Some so.0),
         so.1,
-        more ended line lines s so.1 v w (was_refused so.0 why) before out written before' told told at_ (nothing_asked, of_run, so.3)
+        more ended line lines s so.1 v w (Err (why, Some so.0)) before out written before' told told at_ (nothing_asked, of_run, so.3)
             (subst (λ (x : Server). StandsAs x so.1 before written) (sym is) so.4) many refuses (sym (append-nil told)),
       )
 
@@ -101,11 +102,11 @@ module _ (ended : Bool) (v : Serving) (server server' : Server) (looked out mid 
       let none = tries s before at_.counts.stands in
       let so = tells s before none.1 in
       let kept : looked ≡ seen line = same ∙ at_.kept in
-      let nobodys : IsNobodys (seen line) s = subst (λ (l : List ℕ). IsNobodys l s) kept so.0 in
+      let nobodys : IsNobodys (seen line) why s = subst (λ (l : List ℕ). IsNobodys l why s) kept so.0 in
       let nothing_asked : Refuses why ended (seen line) s = subst (λ (l : List ℕ). Refuses why ended l s) kept none.0 in (
-        was_lost why,
+        Err (why, None),
         s,
-        more ended line lines s s v w (was_lost why) before out written before' told told' at_ (nothing_asked, nobodys, sym (some_open s before mid none.1), refl)
+        more ended line lines s s v w (Err (why, None)) before out written before' told told' at_ (nothing_asked, nobodys, sym (some_open s before mid none.1), refl)
             (subst (λ (x : Server). StandsAs x s before written) (sym is) so.1) (many ∙ next) refuses (reports ∙ ap (λ (n : ℕ). told ++ refused_line_text n why) (next ∙ ap (λ (n : ℕ). n + 1) at_.counts.many)),
       )
 
@@ -120,7 +121,7 @@ abbrev pub at_line : (bytes before out before' told : List ℕ) (v : Serving) (f
 at_line bytes before out before' told v fed = record { all = fed.all; last_is = fed.last_is; kept = fed.kept; counts = fed.counts }
 
 -- the bytes of a line more
-one_line : (bytes line : List ℕ) (lines : List Sent) (c : Came) → bytes ≡ bytes_of lines ++ line → bytes ++ 10 ∷ [] ≡ bytes_of (sent line true c ∷ lines) ++ []
+one_line : (bytes line : List ℕ) (lines : List Sent) (c : Result Order (Refusal × Option Run)) → bytes ≡ bytes_of lines ++ line → bytes ++ 10 ∷ [] ≡ bytes_of (sent line true c ∷ lines) ++ []
 one_line bytes line lines c parts =
     ap (λ (l : List ℕ). l ++ 10 ∷ []) parts ∙ (append_assoc (bytes_of lines) line (10 ∷ []) ∙ sym (append-nil (bytes_of (sent line true c ∷ lines))))
 
@@ -178,7 +179,7 @@ long_lines (l ∷ before) all = by_end l.ended refl (long_lines before (and_righ
         (omega (arith, so, length-append (bytes_of before) (l.bytes ++ 10 ∷ []), length-append l.bytes (10 ∷ [])))
 
 pub why_line : (f : ServeFault) (line behind : List ℕ) (lines : List Sent) (s : ServiceState) (input : Option (List ℕ)) → AllEnded lines → NoLf line → IsBadLine f true line lines s → IsWhy f lines s (line ++ 10 ∷ behind) input
-why_line (ServeFault.Line n why) line behind lines s input all plain bad = (bad.0, bad.1, (line, behind, plain, inl (refl, bad.2)))
+why_line (ServeFault.Line n why) line behind lines s input all plain bad = (bad.0, bad.1, line, behind, plain, inl (refl, bad.2))
 why_line ServeFault.TooLong line behind lines s input all plain bad = omega (arith, bad, long_lines lines all, length-append (bytes_of lines) (line ++ 10 ∷ behind))
 why_line ServeFault.NoMemory line behind lines s input all plain bad = tt
 why_line _ line behind lines s input all plain bad = absurd bad
@@ -289,7 +290,7 @@ some_seen : (line looked : List ℕ) → looked ≡ seen line → looked ≢ [] 
 some_seen line looked same some = λ none. some (same ∙ (ap seen none ∙ take_none LINE_BYTES))
 
 why_last : (f : ServeFault) (line : List ℕ) (lines : List Sent) (s : ServiceState) (input : Option (List ℕ)) → IsAtEnd input → AllEnded lines → NoLf line → line ≢ [] → IsBadLine f false line lines s → IsWhy f lines s line input
-why_last (ServeFault.Line n why) line lines s input end all plain some bad = (bad.0, bad.1, (line, [], plain, inr (refl, some, end, bad.2)))
+why_last (ServeFault.Line n why) line lines s input end all plain some bad = (bad.0, bad.1, line, [], plain, inr (refl, some, end, bad.2))
 why_last ServeFault.TooLong line lines s input end all plain some bad = omega (arith, bad, long_lines lines all, length-append (bytes_of lines) line)
 why_last ServeFault.NoMemory line lines s input end all plain some bad = tt
 why_last _ line lines s input end all plain some bad = absurd bad
@@ -380,55 +381,45 @@ fed_again bytes v before out before' told fed = record {
 abbrev ending : Result Served ServeFault → Bool → Ending
 ending outcome told = record { outcome = outcome; told = told }
 
--- no more is read
-stopped_at : (from to : Devices) (told : Bool) (turns : ℕ) (v : Serving) (f : ServeFault) → (at_ : IsAt from to told turns v) → IsWhy f at_.fed.lines at_.fed.stand at_.fed.last to.input → IsServiceEnd from to (ending (Err f) told)
-stopped_at from to told turns v f at_ why = record {
-  bytes = at_.bytes;
-  text = at_.before ++ [];
-  reports = at_.before' ++ [];
-  due = Err f;
-  read = at_.read;
-  ended = stops_here at_.bytes at_.fed.last at_.bytes v at_.before [] [] at_.before' [] [] to.input f at_.fed at_.fed.parts why refl refl;
-  written = inl (refl, subst (λ (l : List ℕ). Appends from.output to.output l) (sym (append-nil at_.before)) at_.written);
-  reported = subst (λ (l : List ℕ). IsTaken told from.errors to.errors l) (sym (append-nil at_.before')) at_.told_is;
-}
+module _ (input left output output' errors errors' : Option (List ℕ)) (told : Bool) (turns : ℕ) (v : Serving) (at_ : IsAt input left output output' errors errors' told turns v) where
+  -- no more is read
+  stopped_at : (rest : Option (List ℕ)) (f : ServeFault) → Consumes input rest at_.bytes → IsWhy f at_.fed.lines at_.fed.stand at_.fed.last rest → IsServiceEnd input rest output output' errors errors' (ending (Err f) told)
+  stopped_at rest f read why = record {
+    bytes = at_.bytes;
+    text = at_.before ++ [];
+    reports = at_.before' ++ [];
+    due = Err f;
+    read = read;
+    ended = stops_here at_.bytes at_.fed.last at_.bytes v at_.before [] [] at_.before' [] [] rest f at_.fed at_.fed.parts why refl refl;
+    written = inl (refl, subst (λ (l : List ℕ). Appends output output' l) (sym (append-nil at_.before)) at_.written);
+    reported = subst (λ (l : List ℕ). IsTaken told errors errors' l) (sym (append-nil at_.before')) at_.told_is;
+  }
 
-pub uncounted : (from to : Devices) (told : Bool) (turns : ℕ) (v : Serving) → 2 ^ 64 - 1 ≤ turns → IsAt from to told turns v → IsServiceEnd from to (ending (Err ServeFault.TooLong) told)
-uncounted from to told turns v most at_ =
-    stopped_at from to told turns v ServeFault.TooLong at_ (subst (λ (l : List ℕ). 2 ^ 64 - 1 ≤ length l) at_.fed.parts (omega (arith, most, at_.many)))
+  pub uncounted : 2 ^ 64 - 1 ≤ turns → IsServiceEnd input left output output' errors errors' (ending (Err ServeFault.TooLong) told)
+  uncounted most = stopped_at left ServeFault.TooLong at_.read (subst (λ (l : List ℕ). 2 ^ 64 - 1 ≤ length l) at_.fed.parts (omega (arith, most, at_.many)))
 
-pub unread : (from : Devices) (left rest output errors : Option (List ℕ)) (told : Bool) (turns : ℕ) (v : Serving) → IsAt from (devices left output errors) told turns v → Keeps left rest → IsServiceEnd from (devices rest output errors) (ending (Err ServeFault.Read) told)
-unread from left rest output errors told turns v at_ kept =
-    let still : IsAt from (devices rest output errors) told turns v = record {
-      bytes = at_.bytes;
-      read = consumes_kept from.input left rest at_.bytes at_.read kept;
-      many = at_.many;
-      before = at_.before;
-      before' = at_.before';
-      fed = at_.fed;
-      written = at_.written;
-      told_is = at_.told_is;
-    } in
-    stopped_at from (devices rest output errors) told turns v ServeFault.Read still at_.fed.last_is
+  pub unread : (rest : Option (List ℕ)) → Keeps left rest → IsServiceEnd input rest output output' errors errors' (ending (Err ServeFault.Read) told)
+  unread rest kept = stopped_at rest ServeFault.Read (consumes_kept input left rest at_.bytes at_.read kept) at_.fed.last_is
 
-module _ (from : Devices) (left rest output output' errors errors' : Option (List ℕ)) (heard told : Bool) (turns : ℕ) (v w : Serving) (chunk out said : List ℕ) (at_ : IsAt from (devices left output errors) heard turns v) (read : Consumes left rest chunk) (hears : Hears heard told errors errors' said) where
-  all_read : Consumes from.input rest (at_.bytes ++ chunk)
-  all_read = consumes_join from.input left rest at_.bytes chunk at_.read read
+module _ (input left rest printed output output' reported errors errors' : Option (List ℕ)) (heard told : Bool) (turns : ℕ) (v w : Serving) (chunk out said : List ℕ) (at_ : IsAt input left printed output reported errors heard turns v) (read : Consumes left rest chunk)
+    (hears : Hears heard told errors errors' said) where
+  all_read : Consumes input rest (at_.bytes ++ chunk)
+  all_read = consumes_join input left rest at_.bytes chunk at_.read read
 
-  reports : IsTaken told from.errors errors' (at_.before' ++ said)
-  reports = told_join heard told from.errors errors errors' at_.before' said at_.told_is hears
+  reports : IsTaken told reported errors' (at_.before' ++ said)
+  reports = told_join heard told reported errors errors' at_.before' said at_.told_is hears
 
-  written_whole : Appends output output' out → Appends from.output output' (at_.before ++ out)
-  written_whole wrote = appends_join from.output output output' at_.before out at_.written wrote
+  written_whole : Appends output output' out → Appends printed output' (at_.before ++ out)
+  written_whole wrote = appends_join printed output output' at_.before out at_.written wrote
 
   -- this was due, and that came of it
   ends : (due o : Result Served ServeFault) → HasEnded (at_.bytes ++ chunk) rest (at_.before ++ out) (at_.before' ++ said) due →
-      ((o ≡ due) × Appends from.output output' (at_.before ++ out)) ⊎ ((o ≡ Err ServeFault.Write) × AppendsPrefix from.output output' (at_.before ++ out)) → IsServiceEnd from (devices rest output' errors') (ending o told)
+      ((o ≡ due) × Appends printed output' (at_.before ++ out)) ⊎ ((o ≡ Err ServeFault.Write) × AppendsPrefix printed output' (at_.before ++ out)) → IsServiceEnd input rest printed output' reported errors' (ending o told)
   ends due o so written =
       record { bytes = at_.bytes ++ chunk; text = at_.before ++ out; reports = at_.before' ++ said; due = due; read = all_read; ended = so; written = written; reported = reports }
 
-  fails : (due : Result Served ServeFault) → HasEnded (at_.bytes ++ chunk) rest (at_.before ++ out) (at_.before' ++ said) due → AppendsPrefix output output' out → IsServiceEnd from (devices rest output' errors') (ending (Err ServeFault.Write) told)
-  fails due so wrote = ends due (Err ServeFault.Write) so (inr (refl, prefix_behind from.output output output' at_.before out at_.written wrote))
+  fails : (due : Result Served ServeFault) → HasEnded (at_.bytes ++ chunk) rest (at_.before ++ out) (at_.before' ++ said) due → AppendsPrefix output output' out → IsServiceEnd input rest printed output' reported errors' (ending (Err ServeFault.Write) told)
+  fails due so wrote = ends due (Err ServeFault.Write) so (inr (refl, prefix_behind printed output output' at_.before out at_.written wrote))
 
   -- what the texts of the turn say
   abbrev IsDue : Result (Option Served) ServeFault → Type 0
@@ -436,7 +427,8 @@ module _ (from : Devices) (left rest output output' errors errors' : Option (Lis
       IsTurn ((0 < length chunk) × IsFed (at_.bytes ++ chunk) w at_.before out at_.before' said) (HasEnded (at_.bytes ++ chunk) rest (at_.before ++ out) (at_.before' ++ said)) result
 
   -- they were written
-  pub written : (result : Result (Option Served) ServeFault) → IsDue result → Appends output output' out → IsTurn (IsAt from (devices rest output' errors') told (turns + 1) w) (λ o. IsServiceEnd from (devices rest output' errors') (ending o told)) result
+  pub written : (result : Result (Option Served) ServeFault) → IsDue result → Appends output output' out →
+      IsTurn (IsAt input rest printed output' reported errors' told (turns + 1) w) (λ o. IsServiceEnd input rest printed output' reported errors' (ending o told)) result
   written (Ok None) so wrote = record {
     bytes = at_.bytes ++ chunk;
     read = all_read;
@@ -451,7 +443,7 @@ module _ (from : Devices) (left rest output output' errors errors' : Option (Lis
   written (Err f) so wrote = ends (Err f) (Err f) so (inl (refl, written_whole wrote))
 
   -- the output failed
-  pub unwritten : (result : Result (Option Served) ServeFault) → IsDue result → AppendsPrefix output output' out → IsServiceEnd from (devices rest output' errors') (ending (Err ServeFault.Write) told)
+  pub unwritten : (result : Result (Option Served) ServeFault) → IsDue result → AppendsPrefix output output' out → IsServiceEnd input rest printed output' reported errors' (ending (Err ServeFault.Write) told)
   unwritten (Ok None) so wrote = let fed = so.1 in fails (Err ServeFault.Write) (stops_here (at_.bytes ++ chunk) fed.last _ w at_.before out out at_.before' said said rest ServeFault.Write fed fed.parts tt refl refl) wrote
   unwritten (Ok (Some r)) so wrote = fails (Ok r) so wrote
   unwritten (Err f) so wrote = fails (Err f) so wrote

@@ -2,7 +2,7 @@
 use Rattle.std.{proofs.{Common.{ℕ, ◌≡◌, ◌≢◌, ◌<◌, ◌≤◌, ◌==◌, ◌&&◌, ◌||◌, ◌⊎◌, inl, inr, not, if◌then◌else◌, zero, suc, Bool, true, false, Option, Some, None, List, [], ◌∷◌, ◌++◌, drop, refl, ap, sym, subst, ◌∙◌, arith}, lemmas.Bool.Decides.nat_tests}, specs.List.{AllByRecursion, list_any, list_all}}
 use Rattle.tc_rules.{specs.{Prelude.{Run, Comp, Entry, Op, Target, Phase, Fault, Reply, add_new, comp_of, comps, created, exists, phase, done, is_done, is_killed, is_running, killed, holds, is_still, is_stuck, parks, waiting, waits_in_vain, all_exist, fault, answer, answer_unless, is_active, is_active_on, local_reply, plain_answer, is_quiet, keeps_phases, IsLegal, wake_op}, declared.awaited.Awaited.Awaited}, proofs.Lemmas.{Deciding.{equal_if, self_equal}, Going.last_on_it, Kept.list_all-same, Quiet.{Quiet, no_new_fault, quiet_wakes_nobody, same_active, same_phase}, Stuck.phase_running, Sound.plain_if}}
 use Rattle.tc_blocks.specs.{declared.line.Line.Line, Prelude.{entries_of, entry_in}}
-use Rattle.tc_serve.{specs.{Inside.{after_call, wakes_nobody, with_line, called, IsSettled}, Laws.{AllServed, IsSound}, Protocol.{Played, moved, played_past, woken, woken_from}}, proofs.{Evident.{all_legal, move_sound, no_entry, note_sound}, Changes.all_served}}
+use Rattle.tc_serve.{specs.{Inside.{after_call, wakes_nobody, with_line, called, IsSettled}, Laws.AllServed, Protocol.{Played, moved, played_past, woken, woken_from}}, proofs.{Evident.{IsSound, all_legal, made_sound, no_entry, note_sound}, Changes.{all_served, also_served}}}
 
 -- ---- a call that is replied Ended changes nothing for the others
 
@@ -303,11 +303,7 @@ noted_settled p l none so =
 both : AllServed (λ p. IsSound p × IsSettled p)
 both = all_served (λ p. IsSound p × IsSettled p) (λ name n name_is few. (record { legal = tt; wakes = tt }, new_settled name n))
     (λ p l may note so. (note_sound p l may so.0, noted_settled p l (no_entry p l may) so.1))
-    (λ p caller op may low fits so. (move_sound p caller op may so.0, moved_settled p caller op so.0.legal))
-
-second : (ps : List Played) → AllByRecursion (λ p. IsSound p × IsSettled p) ps → AllByRecursion IsSettled ps
-second [] so = tt
-second (p ∷ ps) so = (so.0.1, second ps so.1)
+    (λ p caller op may low fits so. (made_sound p caller op may so.0, moved_settled p caller op so.0.legal))
 
 pub nobody_sleeps_on : AllServed IsSettled
-nobody_sleeps_on = λ lines s served. second _ (both lines s served)
+nobody_sleeps_on = also_served (λ p. IsSound p × IsSettled p) IsSettled (λ p so. so.1) both

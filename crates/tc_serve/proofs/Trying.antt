@@ -1,8 +1,8 @@
 -- What a line tries, and the calls that it makes.
-use Rattle.std.{proofs.{Common.{ℕ, ◌≡◌, ◌≢◌, ◌∙◌, ◌<◌, ◌^◌, nat_lt, if◌then◌else◌, Bool, true, false, is_some, not, inl, inr, Option, Some, None, Result, Ok, Err, is_err, MatchResult, List, [], ◌∷◌, ◌++◌, refl, ap, sym, subst, ◌==◌, ◌||◌, append_assoc, arith}}, specs.{Option.option_map_or, Result.{result_map_both, result_err}}}
-use Rattle.tc_rules.{specs.{Prelude.{Comp, Run, Verdict, worse, overall, Entry, Op, Reply, answer, IsReplyOf, Kept, StandsFor, TakesIn, keeps_phases, IsLegal, is_wake, started_run}}, proofs.Lemmas.Standing.legal_for}
+use Rattle.std.{proofs.{Common.{ℕ, ◌≡◌, ◌≢◌, ◌∙◌, ◌<◌, ◌^◌, nat_lt, if◌then◌else◌, Bool, true, false, is_some, not, inl, inr, Option, Some, None, Result, Ok, Err, is_err, MatchResult, List, [], ◌∷◌, ◌++◌, refl, ap, sym, subst, ◌==◌, ◌||◌, ◌&&◌, append_assoc, arith}}, specs.{Option.option_map_or, Result.{result_map_both, result_err}}}
+use Rattle.tc_rules.{specs.{Prelude.{Comp, Run, Verdict, worse, overall, Entry, Op, Reply, answer, IsReplyOf, Kept, StandsFor, TakesIn, keeps_phases, IsLegal, is_wake, started_run, waiting}}, proofs.Lemmas.Standing.legal_for}
 use Rattle.tc_blocks.specs.{Prelude.{end_text, with_lf, header_text, entry_in, is_met, line_text, starts, AreMet}, declared.{line.Line.Line, met.MetRuns.MetRuns}}
-use Rattle.tc_serve.{specs.{Inside.{Changes, IsCurrent, IsOpen, Rests, StandsAs, TellsRun, Tries, TriesLine, with_line, AreAwake, Becomes, Holds, IsCalled, IsKept, IsText, Moves, after_call, entry, wakes_nobody, called, counted, IsNobodys}, Protocol.{IsOf, IsOrder, IsOrderOf, IsWhyNothing, Played, Refuses, ServiceState, after_order, order_text, played_past, refused, why_text, with_added_line, with_current, with_open, made, moved, sleep_of, woken}, Serve.{case_header, stand_text}, declared.{open_case.OpenCase.OpenCase, order.{Order.Order, Refusal.Refusal}, server.Server.Server}}, proofs.{Changes.{appended, begins, ends, grows, line_more}, Settled.{new_settled, moved_settled, nobody_woken, noted_settled}}}
+use Rattle.tc_serve.{specs.{Inside.{Changes, IsCurrent, IsOpen, Rests, StandsAs, TellsRun, Tries, TriesLine, with_line, AreAwake, Becomes, Holds, IsCalled, IsKept, IsText, Moves, after_call, entry, wakes_nobody, called, counted, IsNobodys}, Protocol.{IsOf, IsOrder, IsOrderOf, IsWhyNothing, Played, Refuses, ServiceState, after_order, order_text, played_past, refused, why_text, with_added_line, with_open, made, moved, woken}, Serve.{case_header, stand_text}, declared.{open_case.OpenCase.OpenCase, order.{Order.Order, Refusal.Refusal}, server.Server.Server}}, proofs.{Changes.{appended, begins, ends, grows, line_more}, Settled.{new_settled, moved_settled, nobody_woken, noted_settled}}}
 
 abbrev pub server : Option OpenCase → Verdict → Server
 server c w = record { current = c; worst = w }
@@ -21,6 +21,10 @@ open_is v o s c before out is stands current = subst (λ (x : Option OpenCase). 
 -- the text by the test case that is open
 text_is : (s : ServiceState) (c : Option Played) → s.current ≡ c → stand_text s ≡ stand_text (record { closed = s.closed; current = c })
 text_is s c is = ap (λ (x : Option Played). stand_text (record { closed = s.closed; current = x })) is
+
+-- the test case that is open is this one now
+abbrev with_current : ServiceState → Played → ServiceState
+with_current s p = record s { current = Some p }
 
 -- the test case that is open became another, or none is open
 abbrev changed : ServiceState → (Played → Result Played Refusal) → Option Played → Result ServiceState Refusal
@@ -148,19 +152,6 @@ same_run a b e = ap (λ (k : ℕ). make k) e
 abbrev pub IsThatRun : List ℕ → Run → Type 0
 IsThatRun line r = (run : ℕ) → run < 2 ^ 16 → IsOf line run → r.0 ≡ run
 
--- whether a run gets a refusal is the same for each reason
-same_told : (s : ServiceState) (r : Run) (e why : Refusal) → is_err (refused s r e) ≡ is_err (refused s r why)
-same_told s r e why = by_current s.current
-  where
-    by_has : (p : Played) (t : Bool) →
-        is_err (result_map_both (with_current s) (λ (x : Refusal). x) (if t then Ok (with_line p (Line.Refused r (why_text e))) else Err Refusal.NoRun)) ≡ is_err (result_map_both (with_current s) (λ (x : Refusal). x) (if t then Ok (with_line p (Line.Refused r (why_text why))) else Err Refusal.NoRun))
-    by_has p true = refl
-    by_has p false = refl
-
-    by_current : (c : Option Played) → is_err (changed s (with_added_line r (Line.Refused r (why_text e))) c) ≡ is_err (changed s (with_added_line r (Line.Refused r (why_text why))) c)
-    by_current None = refl
-    by_current (Some p) = by_has p (nat_lt r.0 p.behaviours)
-
 -- by what became of the refusal
 pub tells_run : (line : List ℕ) (r : Run) (why : Refusal) (other : Option Refusal) (told : Bool) (v w : Server) (out written : List ℕ) → is_some other ≡ not told → IsOf line r.0 → IsThatRun line r → Tries (λ s. refused s r why) other v w out written →
     TellsRun line why told v w out written
@@ -176,14 +167,14 @@ tells_run line r why None true v w out written same of_run that tries = λ s bef
 tells_run line r why (Some x) false v w out written same of_run that tries = λ s before stands. by_told s before (refused s r why) refl (tries s before stands)
   where
     by_told : (s : ServiceState) (before : List ℕ) (y : Result ServiceState Refusal) → refused s r why ≡ y →
-        MatchResult y (λ t. (◌≡◌ {A = Option Refusal} (Some x) None) × StandsAs w t before written) (λ e. (◌≡◌ {A = Option Refusal} (Some x) (Some e)) × StandsAs w s before written) → IsNobodys line s × StandsAs w s before written
+        MatchResult y (λ t. (◌≡◌ {A = Option Refusal} (Some x) None) × StandsAs w t before written) (λ e. (◌≡◌ {A = Option Refusal} (Some x) (Some e)) × StandsAs w s before written) → IsNobodys line why s × StandsAs w s before written
     by_told s before (Err e) is so =
-        (λ run other low of_run. subst (λ (b : Run). is_err (refused s b other) ≡ true) (same_run r run (that run.0 low of_run)) (same_told s r other why ∙ ap (λ (y : Result ServiceState Refusal). is_err y) is), so.1)
+        (λ run low of_run. subst (λ (b : Run). is_err (refused s b why) ≡ true) (same_run r run (that run.0 low of_run)) (ap (λ (y : Result ServiceState Refusal). is_err y) is), so.1)
     by_told s before (Ok t) is so = absurd (let same = so.0 in cc)
 
 -- the line begins with no run
 pub of_nobody : (line : List ℕ) (why : Refusal) (v : Server) (out : List ℕ) → ((run : ℕ) → run < 2 ^ 16 → IsOf line run → ⊥) → TellsRun line why false v v out out
-of_nobody line why v out none = λ s before stands. (λ run other low of_run. absurd (none run.0 low of_run), stands)
+of_nobody line why v out none = λ s before stands. (λ run low of_run. absurd (none run.0 low of_run), stands)
 
 -- ---- a line that is no entry
 
@@ -280,7 +271,7 @@ call_made v w caller op reply out written replied takes behaviours waited met ap
 -- ---- a call that is barred, and one that is not
 
 pub made_not : (why : Refusal) (p : Played) (caller : Run) (op : Op) (P : Played → Type 0) (Q : Refusal → Type 0) → Some why ≡ result_err (made caller op p) → Q why → MatchResult (made caller op p) P Q
-made_not why p caller op P Q barred holds = by_tests (is_wake op) (is_some (sleep_of p caller.0)) barred
+made_not why p caller op P Q barred holds = by_tests (is_wake op) (nat_lt caller.0 p.behaviours && is_some (waiting (played_past p) caller.0)) barred
   where
     by_why : (e : Refusal) → ◌≡◌ {A = Option Refusal} (Some why) (Some e) → Q e
     by_why e is = let same : why ≡ e = cc in subst Q same holds
@@ -292,7 +283,7 @@ made_not why p caller op P Q barred holds = by_tests (is_wake op) (is_some (slee
     by_tests false false is = absurd cc
 
 pub made_so : (p : Played) (caller : Run) (op : Op) (P : Played → Type 0) (Q : Refusal → Type 0) → ◌≡◌ {A = Option Refusal} None (result_err (made caller op p)) → P (moved p caller op) → MatchResult (made caller op p) P Q
-made_so p caller op P Q free holds = by_tests (is_wake op) (is_some (sleep_of p caller.0)) free
+made_so p caller op P Q free holds = by_tests (is_wake op) (nat_lt caller.0 p.behaviours && is_some (waiting (played_past p) caller.0)) free
   where
     by_tests : (a b : Bool) → ◌≡◌ {A = Option Refusal} None (result_err (if a then Err Refusal.Wake else if b then Err Refusal.Waiting else Ok (moved p caller op))) →
         MatchResult (if a then Err Refusal.Wake else if b then Err Refusal.Waiting else Ok (moved p caller op)) P Q

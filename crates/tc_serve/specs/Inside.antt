@@ -1,9 +1,9 @@
 -- What the functions inside say.
-use Rattle.std.specs.{Prelude.{ℕ, ◌≡◌, ◌+◌, ◌-◌, ◌<◌, ◌≤◌, ◌^◌, if◌then◌else◌, Bool, true, false, is_some, is_none, Option, Some, None, Result, Ok, Err, List, [], ◌∷◌, ◌++◌, length, MatchBool, MatchResult, codes, is_err}, Io.KnownBytes.{Appends, Consumes}, List.list_any}
+use Rattle.std.specs.{Prelude.{ℕ, ◌≡◌, ◌+◌, ◌-◌, ◌<◌, ◌≤◌, ◌^◌, if◌then◌else◌, Bool, true, false, is_some, Option, Some, None, Result, Ok, Err, List, [], ◌∷◌, ◌++◌, length, MatchBool, MatchResult, codes, is_err}, Io.KnownBytes.{Appends, Consumes}, List.list_any}
 use Rattle.tc_stream.specs.Prelude.{AppendsPrefix}
 use Rattle.tc_rules.specs.{Prelude.{Run, IsBehaviours, Kept, StandsFor, waiting, Entry, Op, Reply, entry_made, Verdict, is_over, overall, answer, wake_op}, declared.awaited.Awaited.Awaited}
 use Rattle.tc_blocks.specs.{declared.{line.Line.Line, met.MetRuns.MetRuns}, Prelude.{entries_of, AreMet}}
-use Rattle.tc_serve.specs.{Protocol.{AllEnded, AreServed, Came, IsOf, IsOrderOf, NoLf, OpensNone, Played, Refuses, Sent, ServiceState, after_order, done_of, finished_state, moved, order_text, played_past, refused, seen, woken_from}, Serve.{Devices, HasEnded, bytes_of, lines_messages, stand_text, worst_case}, declared.{service.{ServeFault.ServeFault, Served.Served}, open_case.OpenCase.OpenCase, order.{Order.Order, Refusal.Refusal}, server.Server.Server, serving.Serving.Serving}}
+use Rattle.tc_serve.specs.{Protocol.{AllEnded, AreServed, IsOf, IsOrderOf, NoLf, OpensNone, Played, Refuses, Sent, ServiceState, after_order, finished_state, moved, order_text, played_past, refused, seen, woken_from}, Serve.{HasEnded, bytes_of, lines_messages, stand_text, worst_case}, declared.{service.{ServeFault.ServeFault, Served.Served}, open_case.OpenCase.OpenCase, order.{Order.Order, Refusal.Refusal}, server.Server.Server, serving.Serving.Serving}}
 
 -- the verdict that a test case counts as: error if it is not over
 abbrev pub counted : Played → Verdict
@@ -13,9 +13,9 @@ counted p = if is_over (played_past p) then overall (played_past p) else Verdict
 abbrev pub end_told : Bool → List ℕ
 end_told inside = if inside then codes "ttrun: the input ended inside a test case" ++ (10 ∷ []) else []
 
--- no run gets the refusal of the line
-abbrev pub IsNobodys : List ℕ → ServiceState → Type 0
-IsNobodys line s = (run : Run) (why : Refusal) → run.0 < 2 ^ 16 → IsOf line run.0 → is_err (refused s run why) ≡ true
+-- no run gets this refusal of the line
+abbrev pub IsNobodys : List ℕ → Refusal → ServiceState → Type 0
+IsNobodys line why s = (run : Run) → run.0 < 2 ^ 16 → IsOf line run.0 → is_err (refused s run why) ≡ true
 
 -- no run that can continue sleeps: the wake of each run that sleeps would be parked
 abbrev pub IsSettled : Played → Type 0
@@ -158,13 +158,9 @@ TriesLine ended line (Some why) v w out written = (s : ServiceState) (before : L
 abbrev pub TellsRun : List ℕ → Refusal → Bool → Server → Server → List ℕ → List ℕ → Type 0
 TellsRun line why true v w out written = (s : ServiceState) (before : List ℕ) → StandsAs v s before out
     → (run : Run) × (t : ServiceState) × IsOf line run.0 × (refused s run why ≡ Ok t) × StandsAs w t before written
-TellsRun line why false v w out written = (s : ServiceState) (before : List ℕ) → StandsAs v s before out → IsNobodys line s × StandsAs w s before written
+TellsRun line why false v w out written = (s : ServiceState) (before : List ℕ) → StandsAs v s before out → IsNobodys line why s × StandsAs w s before written
 
 -- ---- lines that come in pieces
-
--- the line was refused
-abbrev pub is_refused : Came → Bool
-is_refused c = is_none (done_of c)
 
 -- what goes to standard error in all, if the input ends after these lines in this state
 abbrev pub told_at_end : List Sent → ServiceState → List ℕ
@@ -176,7 +172,7 @@ pub record Counts (v : Serving) (lines : List Sent) (s : ServiceState) (before o
   pub stands : StandsAs v.server s before out
   pub tells : before' ++ told ≡ lines_messages lines
   pub many : v.lines ≡ length lines
-  pub refused : v.refused ≡ list_any (λ l. is_refused l.came) lines
+  pub refused : v.refused ≡ list_any (λ l. is_err l.came) lines
 
 -- of these bytes the lines that have ended were served, and what is looked at of the next one is kept
 pub record IsFed (bytes : List ℕ) (v : Serving) (before out before' told : List ℕ) : Type 0 where
@@ -213,7 +209,7 @@ pub record IsAtLine (line : List ℕ) (lines : List Sent) (stand : ServiceState)
 -- the line is served
 abbrev pub Serves : Bool → Serving → Serving → List ℕ → List ℕ → List ℕ → List ℕ → Type 0
 Serves ended v w out written told told' = (line : List ℕ) (lines : List Sent) (s : ServiceState) (before before' : List ℕ) → IsAtLine line lines s v before out before' told
-    → (came : Came) × (t : ServiceState) × Counts w (record { bytes = line; ended = ended; came = came } ∷ lines) t before written before' told'
+    → (came : Result Order (Refusal × Option Run)) × (t : ServiceState) × Counts w (record { bytes = line; ended = ended; came = came } ∷ lines) t before written before' told'
 
 -- it ends the service
 abbrev pub Fails : Bool → Serving → List ℕ → List ℕ → ServeFault → Type 0
@@ -266,12 +262,12 @@ Hears true told before after text = IsTaken told before after text
 Hears false told before after text = (told ≡ false) × (after ≡ before)
 
 -- these bytes were read in this number of turns, and what came of them is written and reported
-pub record IsAt (from to : Devices) (told : Bool) (turns : ℕ) (v : Serving) : Type 0 where
+pub record IsAt (input input' output output' errors errors' : Option (List ℕ)) (told : Bool) (turns : ℕ) (v : Serving) : Type 0 where
   pub bytes : List ℕ
-  pub read : Consumes from.input to.input bytes
+  pub read : Consumes input input' bytes
   pub many : turns ≤ length bytes
   pub before : List ℕ
   pub before' : List ℕ
   pub fed : IsFed bytes v before [] before' []
-  pub written : Appends from.output to.output before
-  pub told_is : IsTaken told from.errors to.errors before'
+  pub written : Appends output output' before
+  pub told_is : IsTaken told errors errors' before'

@@ -1,2 +1,2 @@
 -- What other crates cite of these definitions.
-pub use Rattle.tc_serve.specs.Serve.{IsServiceEnd, devices, refused_line_text}
+pub use Rattle.tc_serve.specs.Serve.{IsServiceEnd, refused_line_text}

@@ -57,10 +57,8 @@ pub record ServiceState : Type 0 where
 -- run b, of which this is the wait if it sleeps, is woken if it can continue: the entry of its wake is added, unless that is
 -- replied parked
 abbrev pub woken_from : ℕ → List Line → ℕ → Option Awaited → List Line
-woken_from n lines b None = lines
-woken_from n lines b (Some a) =
-    let e = entry_made n (entries_of lines) (record { 0 = b }) (wake_op a) in
-    if is_parked e.reply then lines else Line.Entry e ∷ lines
+woken_from n lines b wait = option_map_or (λ a. let e = entry_made n (entries_of lines) (record { 0 = b }) (wake_op a) in
+    if is_parked e.reply then lines else Line.Entry e ∷ lines) wait lines
 
 -- so are the first k runs, in the order of their numbers, each judged after those before it
 abbrev pub woken : ℕ → List Line → ℕ → List Line
@@ -69,17 +67,14 @@ woken n lines (suc k) = woken_from n (woken n lines k) k (waiting (entries_of (w
 
 -- ---- what may be asked of the test case that is open, and what that adds, or why it is refused
 
--- what run b waits for, if it is one of the test case and sleeps
-abbrev pub sleep_of : Played → ℕ → Option Awaited
-sleep_of p b = if nat_lt b p.behaviours then waiting (played_past p) b else None
-
 -- the test case after the call: its entry is added, and the wakes of all runs that can continue
 abbrev pub moved : Played → Run → Op → Played
 moved p caller op = record p { lines = woken p.behaviours (Line.Entry (entry_made p.behaviours (played_past p) caller op) ∷ p.lines) p.behaviours }
 
--- the call is made, unless it is a wake or its run sleeps
+-- the call is made, unless it is a wake, or its run is one of the test case and sleeps
 abbrev pub made : Run → Op → Played → Result Played Refusal
-made caller op p = if is_wake op then Err Refusal.Wake else if is_some (sleep_of p caller.0) then Err Refusal.Waiting else Ok (moved p caller op)
+made caller op p = if is_wake op then Err Refusal.Wake
+    else if nat_lt caller.0 p.behaviours && is_some (waiting (played_past p) caller.0) then Err Refusal.Waiting else Ok (moved p caller op)
 
 -- the line of this run is added, if the run is one of the test case
 abbrev pub with_added_line : Run → Line → Played → Result Played Refusal
@@ -91,17 +86,13 @@ with_name run name p = if nat_lt run.0 p.behaviours && is_met run.0 p.lines then
 
 -- ---- what a line does
 
--- the test case that is open is this one now
-abbrev pub with_current : ServiceState → Played → ServiceState
-with_current s p = record { closed = s.closed; current = Some p }
-
 -- the test case that is open becomes another, if one is open and this may be
 abbrev pub with_open : ServiceState → (Played → Result Played Refusal) → Result ServiceState Refusal
-with_open s change = result_map_both (with_current s) (λ why. why) (option_map_or change s.current (Err Refusal.NoCase))
+with_open s change = result_map_both (λ p. record s { current = Some p }) (λ why. why) (option_map_or change s.current (Err Refusal.NoCase))
 
 -- what is asked is done, or refused
 abbrev pub after_order : ServiceState → Order → Result ServiceState Refusal
-after_order s (Order.Case name n) = if is_some s.current then Err Refusal.CaseOpen else Ok (with_current s (record { name = name; behaviours = n; lines = [] }))
+after_order s (Order.Case name n) = if is_some s.current then Err Refusal.CaseOpen else Ok (record s { current = Some (record { name = name; behaviours = n; lines = [] }) })
 after_order s (Order.Named run name) = with_open s (with_name run name)
 after_order s (Order.Move caller op) = with_open s (made caller op)
 after_order s (Order.Remark run sentence) = with_open s (with_added_line run (Line.Remark run sentence))
@@ -140,33 +131,23 @@ IsWhyNothing _ ended line = ⊥
 abbrev pub Refuses : Refusal → Bool → List ℕ → ServiceState → Type 0
 Refuses why ended line s = ((o : Order) × IsOrderOf ended line o × (after_order s o ≡ Err why)) ⊎ (((o : Order) → IsOrderOf ended line o → ⊥) × IsWhyNothing why ended line)
 
--- what comes of a line: what it asks for is done; or it is refused, and its run gets that; or no run does
-pub data Came : Type 0 where
-  was_done : Order → Came
-  was_refused : Run → Refusal → Came
-  was_lost : Refusal → Came
-
--- this comes of a line in a state, and that is the state after it. A line is lost if no run gets its refusal; outside a test
--- case none may be
-abbrev pub Comes : Came → Bool → List ℕ → ServiceState → ServiceState → Type 0
-Comes (was_done o) ended line s t = IsOrderOf ended line o × (after_order s o ≡ Ok t)
-Comes (was_refused run why) ended line s t = Refuses why ended line s × IsOf line run.0 × (refused s run why ≡ Ok t)
-Comes (was_lost why) ended line s t =
-    Refuses why ended line s × ((run : Run) (x : Refusal) → run.0 < 2 ^ 16 → IsOf line run.0 → is_err (refused s run x) ≡ true)
+-- this comes of a line in a state, and that is the state after it. What it asks for is done; or it is refused, and its run gets
+-- that; or it is lost, since no run can get that. Outside a test case none may be lost
+abbrev pub Comes : Result Order (Refusal × Option Run) → Bool → List ℕ → ServiceState → ServiceState → Type 0
+Comes (Ok o) ended line s t = IsOrderOf ended line o × (after_order s o ≡ Ok t)
+Comes (Err (why, Some run)) ended line s t = Refuses why ended line s × IsOf line run.0 × (refused s run why ≡ Ok t)
+Comes (Err (why, None)) ended line s t =
+    Refuses why ended line s × ((run : Run) → run.0 < 2 ^ 16 → IsOf line run.0 → is_err (refused s run why) ≡ true)
     × (is_some s.current ≡ true) × (t ≡ s)
-
--- what a line asked for that was done
-abbrev pub done_of : Came → Option Order
-done_of (was_done o) = Some o
-done_of _ = None
 
 -- ---- lines, one after the other
 
--- a line that came: its bytes, whether LF ended it, and what came of it
+-- a line that came: its bytes, whether LF ended it, and what came of it: what was done, or why it was refused, and the run that
+-- got that
 pub record Sent : Type 0 where
   pub bytes : List ℕ
   pub ended : Bool
-  pub came : Came
+  pub came : Result Order (Refusal × Option Run)
 
 -- no byte is LF
 abbrev pub NoLf : List ℕ → Type 0

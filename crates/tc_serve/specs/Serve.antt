@@ -1,8 +1,8 @@
 -- The service: what is written and reported of the lines that came, what their verdicts come to, and how it ends.
-use Rattle.std.specs.{Prelude.{MatchBool, ℕ, ◌+◌, if◌then◌else◌, List, [], ◌∷◌, ◌++◌, codes, length, map, reverse, ◌≡◌, ◌≢◌, ◌-◌, ◌≤◌, ◌^◌, ◌⊎◌, true, false, is_some, is_none, Option, Result, Ok, Err}, Fmt.decimal, List.{flat_map, list_any}, Option.option_map_or, Io.KnownBytes.{Appends, Consumes, IsAtEnd}}
-use Rattle.tc_rules.specs.Prelude.{Verdict, worst, overall, is_over}
+use Rattle.std.specs.{Prelude.{MatchBool, ℕ, ◌+◌, if◌then◌else◌, List, [], ◌∷◌, ◌++◌, codes, length, map, reverse, ◌≡◌, ◌≢◌, ◌-◌, ◌≤◌, ◌^◌, ◌⊎◌, true, false, is_some, is_err, Option, None, Result, Ok, Err}, Fmt.decimal, List.{flat_map, list_any}, Option.option_map_or, Io.KnownBytes.{Appends, Consumes, IsAtEnd}}
+use Rattle.tc_rules.specs.Prelude.{Run, Verdict, worst, overall, is_over}
 use Rattle.tc_blocks.specs.{Prelude.{end_text, line_text, with_lf, header_text}, declared.header.{Header.Header, Kind.Kind}}
-use Rattle.tc_serve.specs.{Protocol.{Came, Played, Sent, ServiceState, played_past, was_lost, why_text, AllEnded, AreServed, NoLf, Refuses, done_of, finished_state, seen}, declared.{order.Refusal.Refusal, service.{ServeFault.ServeFault, Ending.Ending, Served.Served}}}
+use Rattle.tc_serve.specs.{Protocol.{Played, Sent, ServiceState, played_past, why_text, AllEnded, AreServed, NoLf, Refuses, finished_state, seen}, declared.{order.{Order.Order, Refusal.Refusal}, service.{ServeFault.ServeFault, Ending.Ending, Served.Served}}}
 use Rattle.tc_stream.specs.Prelude.{AppendsPrefix}
 
 -- what the first line of its evidence says
@@ -34,9 +34,9 @@ bytes_of (l ∷ before) = bytes_of before ++ (l.bytes ++ (if l.ended then 10 ∷
 abbrev pub refused_line_text : ℕ → Refusal → List ℕ
 refused_line_text n why = codes "ttrun: line " ++ (decimal n ++ (codes ": " ++ (why_text why ++ (10 ∷ []))))
 
--- what goes there about the line of this number
-abbrev pub lost_text : ℕ → Came → List ℕ
-lost_text n (was_lost why) = refused_line_text n why
+-- what goes there about the line of this number, if no run got its refusal
+abbrev pub lost_text : ℕ → Result Order (Refusal × Option Run) → List ℕ
+lost_text n (Err (why, None)) = refused_line_text n why
 lost_text n _ = []
 
 -- and about these lines, the newest first
@@ -44,25 +44,11 @@ abbrev pub lines_messages : List Sent → List ℕ
 lines_messages [] = []
 lines_messages (l ∷ before) = lines_messages before ++ lost_text (length before + 1) l.came
 
--- what is left of the input, and what the output and standard error took, if they are known
-pub record Devices : Type 0 where
-  pub input : Option (List ℕ)
-  pub output : Option (List ℕ)
-  pub errors : Option (List ℕ)
-
--- these three
-abbrev pub devices : Option (List ℕ) → Option (List ℕ) → Option (List ℕ) → Devices
-devices input output errors = record { input = input; output = output; errors = errors }
-
--- the next line is refused for this; if no LF ends it, the input ends with it
-abbrev pub IsBadNext : Refusal → ServiceState → List ℕ → Option (List ℕ) → Type 0
-IsBadNext why s rest input = (line more : List ℕ) × NoLf line
-    × (((rest ≡ line ++ 10 ∷ more) × Refuses why true (seen line) s) ⊎ ((rest ≡ line) × (line ≢ []) × IsAtEnd input × Refuses why false (seen line) s))
-
--- why no further line was served: the next is refused outside a test case, or 2^64 - 1 bytes came, or a read failed,
--- before which each line that had ended was served
+-- why no further line was served: the next is refused outside a test case, or 2^64 - 1 bytes came, or a read failed, before
+-- which each line that had ended was served. If no LF ends the next line, the input ends with it
 abbrev pub IsWhy : ServeFault → List Sent → ServiceState → List ℕ → Option (List ℕ) → Type 0
-IsWhy (ServeFault.Line n why) lines s rest input = (n ≡ length lines + 1) × (is_some s.current ≡ false) × IsBadNext why s rest input
+IsWhy (ServeFault.Line n why) lines s rest input = (n ≡ length lines + 1) × (is_some s.current ≡ false) × (line more : List ℕ) × NoLf line
+    × (((rest ≡ line ++ 10 ∷ more) × Refuses why true (seen line) s) ⊎ ((rest ≡ line) × (line ≢ []) × IsAtEnd input × Refuses why false (seen line) s))
 IsWhy ServeFault.TooLong lines s rest input = 2 ^ 64 - 1 ≤ length (bytes_of lines ++ rest)
 IsWhy ServeFault.Read lines s rest input = NoLf rest
 IsWhy _ lines s rest input = Unit {0}
@@ -71,7 +57,7 @@ IsWhy _ lines s rest input = Unit {0}
 pub data HasEnded (bytes : List ℕ) (input : Option (List ℕ)) (text reports : List ℕ) : Result Served ServeFault → Type 0 where
   -- the input ended: its lines were served, and the test case that was open was closed
   served : (lines : List Sent) (s : ServiceState) (r : Served) → AreServed lines s → bytes ≡ bytes_of lines → IsAtEnd input
-      → r.worst ≡ worst_case (finished_state s) → r.refused ≡ list_any (λ l. is_none (done_of l.came)) lines
+      → r.worst ≡ worst_case (finished_state s) → r.refused ≡ list_any (λ l. is_err l.came) lines
       → text ≡ stand_text (finished_state s)
       → reports ≡ lines_messages lines ++ (if is_some s.current then codes "ttrun: the input ended inside a test case" ++ (10 ∷ []) else [])
       → HasEnded bytes input text reports (Ok r)
@@ -81,13 +67,13 @@ pub data HasEnded (bytes : List ℕ) (input : Option (List ℕ)) (text reports :
       → text ≡ stand_text s → reports ≡ lines_messages lines → HasEnded bytes input text reports (Err f)
 
 -- the service ended as was due, and its text was written; or the output failed, and took a prefix of it. Standard error took
--- the reports, or a prefix of them
-pub record IsServiceEnd (from to : Devices) (e : Ending) : Type 0 where
+-- the reports, or a prefix of them. Of the input it is what is left, and of the others what they took, if that is known
+pub record IsServiceEnd (input input' output output' errors errors' : Option (List ℕ)) (e : Ending) : Type 0 where
   pub bytes : List ℕ
   pub text : List ℕ
   pub reports : List ℕ
   pub due : Result Served ServeFault
-  pub read : Consumes from.input to.input bytes
-  pub ended : HasEnded bytes to.input text reports due
-  pub written : ((e.outcome ≡ due) × Appends from.output to.output text) ⊎ ((e.outcome ≡ Err ServeFault.Write) × AppendsPrefix from.output to.output text)
-  pub reported : MatchBool e.told (Appends from.errors to.errors reports) (AppendsPrefix from.errors to.errors reports)
+  pub read : Consumes input input' bytes
+  pub ended : HasEnded bytes input' text reports due
+  pub written : ((e.outcome ≡ due) × Appends output output' text) ⊎ ((e.outcome ≡ Err ServeFault.Write) × AppendsPrefix output output' text)
+  pub reported : MatchBool e.told (Appends errors errors' reports) (AppendsPrefix errors errors' reports)

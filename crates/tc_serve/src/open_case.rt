@@ -4,13 +4,13 @@ ghost use Rattle.tc_rules.specs.Prelude.{IsBehaviours, Reply as AnyReply};
 ghost use Rattle.tc_rules.specs.Local as verdicts;
 ghost use Rattle.tc_text.specs.Prelude.{move_text};
 ghost use Rattle.tc_blocks.specs.Prelude.{outcome_text, with_lf, entry_in, is_met, AreMet};
-ghost use Rattle.tc_serve.specs.{Inside.{Becomes, Changes, IsCalled, IsOpen, Moves, after_call, entry, wakes_nobody as spec_wakes_nobody, woken_once, called, counted as spec_counted}, Protocol.{Played as AnyPlayed, made, played_past, sleep_of as spec_sleep, why_text, with_added_line, with_name, woken}};
+ghost use Rattle.tc_serve.specs.{Inside.{Becomes, Changes, IsCalled, IsOpen, Moves, after_call, entry, wakes_nobody as spec_wakes_nobody, woken_once, called, counted as spec_counted}, Protocol.{Played as AnyPlayed, made, played_past, why_text, with_added_line, with_name, woken}};
 
 use crate::order::{Refusal, Tried};
 use std::alloc::Global;
 use tc_blocks::{Line, MetRuns, append_line, append_said};
 use tc_entry::{Name, NoMemory, Op, Reply, Run, Verdict};
-use tc_rules::{Awaited, CaseState, keeps_phases};
+use tc_rules::{CaseState, keeps_phases};
 use tc_text::{append_text, write_move, write_reply};
 
 /// A test case that is open: what is kept of it besides its evidence.
@@ -70,24 +70,13 @@ impl OpenCase {
         })
     }
 
-    // What the run waits for, if it is one of the case and sleeps.
-    fn sleep_of(&self, run: Run) -> Option<Awaited>
-        ensures { (p : AnyPlayed) → IsOpen self.now p → result ≡ spec_sleep p run.0 }
-    {
-        if self.has(run) {
-            self.state.parked(run)
-        } else {
-            None
-        }
-    }
-
     // Why a client may not make the call for the run, if it may not.
     fn bar(&self, caller: Run, op: &Op) -> Option<Refusal>
         ensures { (p : AnyPlayed) → IsOpen self.now p → result ≡ result_err (made caller op.now p) }
     {
         if matches!(op, Op::Wake { .. }) {
             Some(Refusal::Wake)
-        } else if self.sleep_of(caller).is_some() {
+        } else if self.has(caller) && self.state.parked(caller).is_some() {
             Some(Refusal::Waiting)
         } else {
             None

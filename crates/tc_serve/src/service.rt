@@ -1,7 +1,7 @@
 //! The service itself.
 ghost use Rattle.std.specs.{Prelude.{◌≡◌, ◌+◌, ◌≤◌, ◌<◌, ◌^◌, ◌↔◌, not, true, false, [], ℕ, Bool, List, Option, is_err, length, OnOk, OnErr, IsErrOf}, Borrow.GName, Io.KnownBytes.Appends};
 ghost use Rattle.tc_stream.specs.Prelude.{AppendsPrefix};
-ghost use Rattle.tc_serve.specs.{Inside.Hears, Inside.IsAt, Inside.IsFed, Inside.IsTurn, Serve.Devices as AnyDevices, Serve.IsServiceEnd, Serve.devices};
+ghost use Rattle.tc_serve.specs.{Inside.Hears, Inside.IsAt, Inside.IsFed, Inside.IsTurn, Serve.IsServiceEnd};
 
 use crate::order::Refusal;
 use crate::serving::{Serving, Texts};
@@ -82,19 +82,6 @@ struct FlushedWriter<'a, W: Write> {
     failed: bool,
 }
 
-impl<'a, W: Write> FlushedWriter<'a, W> {
-    fn new(writer: &'a mut W) -> FlushedWriter<'a, W>
-        ensures same { result.writer.ghost_name ≡ writer.entry.ghost_name }
-        ensures now { result.writer.now ≡ writer.old }
-        ensures failed { result.failed ≡ false }
-    {
-        FlushedWriter {
-            writer,
-            failed: false,
-        }
-    }
-}
-
 // Writes the text, and flushes the writer.
 fn write_flushed<W: Write>(writer: &mut W, text: &[u8]) -> Result<(), WriteFault>
     ensures all { OnOk result (Appends (W.contents writer.old) (W.contents writer.new) text.now) }
@@ -149,10 +136,13 @@ fn turn<R: CountedRead, W: FlushedWrite, E: CountedWrite>(
     requires read { R.has_failed reader.old ≡ false }
     requires reads { R.reads reader.old + 1 < 2 ^ 128 }
     requires written { W.has_failed writer.old ≡ false }
-    ensures turn { (from : AnyDevices) (turns : ℕ)
-        → IsAt from (devices (R.remaining reader.old) (W.contents writer.old) (E.contents errors.old)) heard.old turns serving.old
-        → IsTurn (IsAt from (devices (R.remaining reader.new) (W.contents writer.new) (E.contents errors.new)) heard.new (turns + 1) serving.new)
-        (λ o. IsServiceEnd from (devices (R.remaining reader.new) (W.contents writer.new) (E.contents errors.new)) (record { outcome = o; told = heard.new })) result }
+    ensures turn { (input output reports : Option (List ℕ)) (turns : ℕ)
+        → IsAt input (R.remaining reader.old) output (W.contents writer.old) reports (E.contents errors.old)
+        heard.old turns serving.old
+        → IsTurn (IsAt input (R.remaining reader.new) output (W.contents writer.new) reports (E.contents errors.new)
+        heard.new (turns + 1) serving.new)
+        (λ o. IsServiceEnd input (R.remaining reader.new) output (W.contents writer.new) reports (E.contents errors.new)
+        (record { outcome = o; told = heard.new })) result }
     ensures heard { heard.new ≡ not (E.has_failed errors.new) }
     ensures counted { E.writes errors.new ≤ E.writes errors.old + 2 ^ 64 }
     ensures read { IsErrOf result ServeFault.Read ↔ (R.has_failed reader.new ≡ true) }
@@ -190,8 +180,9 @@ fn serve_lines<R: CountedRead, W: FlushedWrite, E: CountedWrite>(
     requires few { (E.writes errors.old ≡ 0) × (R.reads reader.old ≡ 0) }
     requires read { R.has_failed reader.old ≡ false }
     requires written { W.has_failed writer.old ≡ false }
-    ensures ending { IsServiceEnd (devices (R.remaining reader.old) (W.contents writer.old) (E.contents errors.old))
-        (devices (R.remaining reader.new) (W.contents writer.new) (E.contents errors.new)) (record { outcome = result; told = heard.new }) }
+    ensures ending { IsServiceEnd (R.remaining reader.old) (R.remaining reader.new) (W.contents writer.old)
+        (W.contents writer.new) (E.contents errors.old) (E.contents errors.new)
+        (record { outcome = result; told = heard.new }) }
     ensures heard { heard.new ≡ not (E.has_failed errors.new) }
     ensures read { IsErrOf result ServeFault.Read ↔ (R.has_failed reader.new ≡ true) }
     ensures written { IsErrOf result ServeFault.Write ↔ (W.has_failed writer.new ≡ true) }
@@ -216,8 +207,8 @@ pub fn serve<R: Read, W: Write, E: Write>(
     writer: &mut W,
     errors: &mut E,
 ) -> Ending
-    ensures { IsServiceEnd (devices (R.remaining reader.old) (W.contents writer.old) (E.contents errors.old))
-        (devices (R.remaining reader.new) (W.contents writer.new) (E.contents errors.new)) result }
+    ensures { IsServiceEnd (R.remaining reader.old) (R.remaining reader.new) (W.contents writer.old)
+        (W.contents writer.new) (E.contents errors.old) (E.contents errors.new) result }
 {
     let mut texts = Texts {
         out: Vec::new(alloc),
@@ -229,7 +220,10 @@ pub fn serve<R: Read, W: Write, E: Write>(
         &mut texts,
         &mut serving,
         &mut CountedReader::new(reader),
-        &mut FlushedWriter::new(writer),
+        &mut FlushedWriter {
+            writer,
+            failed: false,
+        },
         &mut CountedWriter::new(errors),
         &mut told,
     );

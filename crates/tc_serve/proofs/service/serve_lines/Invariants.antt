@@ -1,11 +1,11 @@
 use Rattle.std.proofs.Common.{◌≡◌, ◌≤◌, ◌*◌, ◌^◌, false, not}
-use Rattle.tc_serve.specs.{Inside.IsAt, Serve.devices}
+use Rattle.tc_serve.specs.Inside.{IsAt}
 use Rattle.tc_serve.proofs.service.serve_lines.Given as goal
 
 abbrev pub invariant-loop-turns : goal.invariant-loop-turns
 invariant-loop-turns g l = record {
-  at_ : IsAt (devices (g.R.CountedRead.remaining l.fn.reader) (g.W.FlushedWrite.contents l.fn.writer) (g.E.CountedWrite.contents l.fn.errors))
-      (devices (g.R.CountedRead.remaining l.reader) (g.W.FlushedWrite.contents l.writer) (g.E.CountedWrite.contents l.errors)) l.heard l._turns l.serving;
+  at_ : IsAt (g.R.CountedRead.remaining l.fn.reader) (g.R.CountedRead.remaining l.reader) (g.W.FlushedWrite.contents l.fn.writer) (g.W.FlushedWrite.contents l.writer)
+      (g.E.CountedWrite.contents l.fn.errors) (g.E.CountedWrite.contents l.errors) l.heard l._turns l.serving;
   heard : l.heard ≡ not (g.E.CountedWrite.has_failed l.errors);
   few : g.E.CountedWrite.writes l.errors ≤ 2 ^ 64 * l._turns;
   read : g.R.CountedRead.has_failed l.reader ≡ false;
