@@ -2,7 +2,7 @@
 use Rattle.std.proofs.{Common.{ℕ, ◌≡◌, ◌≢◌, List, [], ◌∷◌, ◌++◌, map, refl, ap, subst, inr}, lemmas.List.append-nil}
 use Rattle.tc_rules.specs.Prelude.{Case, Entry, IsBehaviours, IsName, overall, past_of}
 use Rattle.tc_blocks.{specs.{Histories.{AreHistories, IsHistoryHeader}, Prelude.{AreEntries, history_text}, Line.entries_of, Text.{AreLines, IsBlock}, declared.{block.Block.Block, header.Kind.Kind, history_block.History.History, line.Line.Line}}, proofs.Lemmas.Histories.are_read}
-use Rattle.tc_table.specs.Calls.{written_history, written_text}
+use Rattle.tc_table.specs.Calls.{written_text}
 
 same_entries : (es : List Entry) → entries_of (map Line.Entry es) ≡ es
 same_entries [] = refl
@@ -36,7 +36,7 @@ text_of h = history_text h.format h.name h.behaviours h.entries h.verdict
 some : (b : Block) → b ∷ [] ≢ []
 some b = λ e. cc
 
-pub read_again : (name : List ℕ) (t : Case) → IsName name → IsBehaviours t.behaviours → AreEntries 2 t.history → AreHistories (written_text name t) (written_history name t ∷ [])
+pub read_again : (name : List ℕ) (t : Case) → IsName name → IsBehaviours t.behaviours → AreEntries 2 t.history → AreHistories (written_text name t) (with_entries name t t.history ∷ [])
 read_again name t named few fit =
     let h = with_entries name t in let es = entries_of (map Line.Entry t.history) in
     subst (λ (es : List Entry). AreHistories (text_of (h es)) (h es ∷ [])) (same_entries t.history)

@@ -5,7 +5,7 @@ use denote.RawPtr.{Ptr}
 use Rattle.std.specs.{Prelude.{ℕ, ◌≡◌, ◌≢◌, ◌<◌, ◌≤◌, ◌^◌, ◌++◌, ◌∷◌, ◌↔◌, ◌⊎◌, Bool, List, MatchOption, [], None, Option, Some, drop, if◌then◌else◌, is_some, length, true}, Option.option_map, Box.Ownership.box_owns, contracts.impls.GlobalAllocator.TheImpl.ghosts, declared.alloc.Global.Global}
 use Rattle.tc_rules.specs.{Prelude.{Case, Entry, IsLegal, IsName, Op, Reply, answer, overall, past_of}, contracts.table.Table.the_row}
 use Rattle.tc_text.specs.Prelude.{IsOp, move_text, reply_text}
-use Rattle.tc_blocks.specs.{Histories.AreHistories, Prelude.history_text, declared.history_block.History.History}
+use Rattle.tc_blocks.specs.{Histories.AreHistories, Prelude.history_text}
 
 -- the value is in a block of the heap at the pointer, with the right to free that
 abbrev pub boxed_at : (R : RattleType) → Ptr → R.Denot → Fml
@@ -36,44 +36,24 @@ Fills before after count bytes = Begins before after count bytes ⊎ (Exceeds be
 abbrev pub Spells : List ℕ → ℕ → Op → Type 0
 Spells text run op = (run < 2 ^ 16) × IsOp op × (text ≡ move_text run op)
 
--- the text spells no call
-abbrev pub IsNoCall : List ℕ → Type 0
-IsNoCall text = (run : ℕ) (op : Op) → Spells text run op → ⊥
-
 -- what the component table replies to a call
 abbrev pub table_reply : Case → ℕ → Op → Reply
 table_reply t run op = answer t.behaviours (past_of t) run op
-
--- the text of that reply
-abbrev pub reply_words : Case → ℕ → Op → List ℕ
-reply_words t run op = reply_text (table_reply t run op)
 
 -- what a host sees after a call: if it was made, there is one more entry, of the call and the table's reply
 abbrev pub after_call : Bool → Case → ℕ → Op → ℕ × List Entry
 after_call made t run op =
     (t.behaviours, if made then t.history ++ record { caller = record { 0 = run }; op = op; reply = table_reply t run op } ∷ [] else t.history)
 
--- the text spells a call, which was made or only asked about, and the room begins with the component table's reply to it
-pub record IsHostCall (made : Bool) (old : Case) (new : Option Case) (text before after : List ℕ) (count : ℕ) : Type 0 where
-  pub run : ℕ
-  pub op : Op
-  pub spelled : Spells text run op
-  pub told : Begins before after count (reply_words old run op)
-  pub left : host_view new ≡ Some (after_call made old run op)
-
--- the text spells a call, whose reply has no room
-pub record IsTooLong (case : Case) (text room : List ℕ) (count : ℕ) : Type 0 where
-  pub run : ℕ
-  pub op : Op
-  pub spelled : Spells text run op
-  pub long : Exceeds room count (reply_words case run op)
-
 -- what is answered to a call by this text, on a place that held this test case and then that one
 pub record IsAnswer (made : Bool) (old new : Option Case) (text before after : List ℕ) (was is number : ℕ) : Type 0 where
-  pub done : number ≡ 0 → MatchOption old ⊥ (λ t. IsHostCall made t new text before after is)
+  -- the text spells a call, which was made or only asked about, and the room begins with the component table's reply to it
+  pub done : number ≡ 0 → MatchOption old ⊥ (λ t. (run : ℕ) × (op : Op) × Spells text run op
+      × Begins before after is (reply_text (table_reply t run op)) × (host_view new ≡ Some (after_call made t run op)))
   pub closed : (number ≡ 1) ↔ (old ≡ None)
-  pub unspelled : (number ≡ 2) ↔ ((is_some old ≡ true) × IsNoCall text)
-  pub no_room : number ≡ 3 → MatchOption old ⊥ (λ t. IsTooLong t text before is)
+  pub unspelled : (number ≡ 2) ↔ ((is_some old ≡ true) × ((run : ℕ) (op : Op) → Spells text run op → ⊥))
+  -- the text spells a call, whose reply has no room
+  pub no_room : number ≡ 3 → MatchOption old ⊥ (λ t. (run : ℕ) × (op : Op) × Spells text run op × Exceeds before is (reply_text (table_reply t run op)))
   pub same : number ≢ 0 → (host_view new ≡ host_view old) × (after ≡ before)
   pub count : number ≢ 0 → number ≢ 3 → is ≡ was
   pub any : number ≢ 0 → number ≢ 1 → number ≢ 2 → number ≢ 3 → (number ≡ 4) × (made ≡ true)
@@ -82,13 +62,10 @@ pub record IsAnswer (made : Bool) (old new : Option Case) (text before after : L
 abbrev pub written_text : List ℕ → Case → List ℕ
 written_text name t = history_text 2 name t.behaviours t.history (overall (past_of t))
 
--- the same as it is read
-abbrev pub written_history : List ℕ → Case → History
-written_history name t = record { format = 2; name = name; behaviours = t.behaviours; first_line = 1; entries = t.history; verdict = overall (past_of t) }
-
 -- the room begins with the history, which is read so, and is legal
 pub record IsHistoryGiven (case : Case) (name before after : List ℕ) (count : ℕ) : Type 0 where
   pub named : IsName name
   pub told : Begins before after count (written_text name case)
-  pub is_read : AreHistories (written_text name case) (written_history name case ∷ [])
+  pub is_read : AreHistories (written_text name case)
+      (record { format = 2; name = name; behaviours = case.behaviours; first_line = 1; entries = case.history; verdict = overall (past_of case) } ∷ [])
   pub is_legal : IsLegal case.behaviours (past_of case)
