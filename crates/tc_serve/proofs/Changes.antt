@@ -58,7 +58,7 @@ named_is run name p q e = by_tests (nat_lt run.0 p.behaviours) (is_met run.0 p.l
     by_tests true false e = (refl, let same : with_line p (Line.Named run name) ≡ q = cc in same)
     by_tests false b e = absurd cc
 
-made_is : (caller : Run) (op : Op) (p q : Played) → made caller op p ≡ Ok q → (may_ask p caller op ≡ true) × (moved p caller op ≡ q)
+pub made_is : (caller : Run) (op : Op) (p q : Played) → made caller op p ≡ Ok q → (may_ask p caller op ≡ true) × (moved p caller op ≡ q)
 made_is caller op p q e = by_tests (is_wake op) (nat_lt caller.0 p.behaviours && is_some (waiting (played_past p) caller.0)) e
   where
     by_tests : (a b : Bool) → ◌≡◌ {A = Result Played Refusal} (if a then Err Refusal.Wake else if b then Err Refusal.Waiting else Ok (moved p caller op)) (Ok q) → ((not a && not b) ≡ true) × (moved p caller op ≡ q)

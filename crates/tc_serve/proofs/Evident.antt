@@ -1,5 +1,5 @@
 -- What is written is evidence of what was asked for.
-use Rattle.std.{proofs.{Common.{ℕ, ◌≡◌, ◌≢◌, ◌∙◌, ◌==◌, ◌||◌, ◌&&◌, ◌+◌, ◌<◌, ◌≤◌, ◌^◌, inr, not, nat_lt, if◌then◌else◌, zero, suc, Bool, true, false, IsTrue, Option, Some, None, Result, Ok, Err, List, [], ◌∷◌, ◌++◌, length, reverse, refl, ap, sym, subst, append_assoc, arith, is_some}, lemmas.{Bool.Decides.nat_tests, List.{append-nil, reverse-append, reverse-reverse}}}, specs.{List.{All, AllByRecursion, flat_map, list_all, cons_option, filter_map, AllZip}, Result.{result_ok, result_unwrap_or}}}
+use Rattle.std.{proofs.{Common.{ℕ, ◌≡◌, ◌≢◌, ◌∙◌, ◌==◌, ◌||◌, ◌&&◌, ◌+◌, ◌<◌, ◌≤◌, ◌^◌, inr, not, nat_lt, if◌then◌else◌, zero, suc, Bool, true, false, IsTrue, Option, Some, None, Result, Ok, Err, List, [], ◌∷◌, ◌++◌, length, reverse, refl, ap, sym, subst, append_assoc, arith}, lemmas.{Bool.Decides.nat_tests, List.{append-nil, reverse-append, reverse-reverse}}}, specs.{List.{All, AllByRecursion, flat_map, list_all, cons_option, filter_map, AllZip}, Result.{result_ok, result_unwrap_or}}}
 use Rattle.tc_rules.{specs.{Prelude.{Run, IsBehaviours, IsName, Comp, Entry, Op, Reply, answer, local_reply, plain_answer, comp_of, created, overall, awaited, holds, parks, waiting, is_parked, Fault, is_wake, IsLegal, wake_op}, declared.awaited.Awaited.Awaited}, proofs.Lemmas.{Deciding.{and_left, and_right}, Sound.{next, plain_if}, Stuck.and_split}}
 use Rattle.tc_text.specs.Prelude.{is_plain, IsOp, IsReply, IsTarget}
 use Rattle.tc_blocks.{specs.{Prelude.{end_text, AreEntries, IsEntry, with_lf, header_text, entries_of, is_about, is_met, IsSentence, AreBlocks, AreEvidence, AreLines, IsHeader, IsLine, block_lines, text_of_block, entry_in}, declared.{block.Block.Block, header.Kind.Kind, line.Line.Line}}, proofs.Lemmas.{Meeting.met_last, WrittenEvidence.written_evidence}}

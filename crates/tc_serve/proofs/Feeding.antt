@@ -1,6 +1,6 @@
 -- Lines that come in pieces, and what is read and written of them, turn by turn.
-use Rattle.std.{proofs.{Common.{ℕ, ◌≡◌, ◌≢◌, ◌∙◌, ◌==◌, ◌||◌, ◌+◌, ◌-◌, ◌<◌, ◌≤◌, inl, inr, if◌then◌else◌, Bool, true, false, is_some, is_err, Option, Some, None, Result, Ok, Err, MatchResult, List, [], ◌∷◌, ◌++◌, codes, zero, suc, length, take, get_or, refl, ap, sym, subst, append_assoc, arith, ◌^◌, ◌↔◌, ◌⊎◌, IfErr, zero-add, suc-add}, lemmas.{List.{append-nil, length-append, take_more}, Grind.common_steps}}, specs.{Fmt.decimal, Io.KnownBytes.{IsAtEnd, Appends, Consumes, Keeps}, List.list_all, Result.result_unwrap_or}}
-use Rattle.tc_serve.{specs.{Inside.{Closes, Counts, Fails, Feeds, IsAtLine, IsBadLine, IsEnd, IsFed, Serves, StandsAs, StopsIn, TakesPiece, TellsRun, Tries, TriesLine, Hears, IsAt, IsOwn, IsTurn, IsTaken, end_told, IsNobodys}, Protocol.{AllEnded, Comes, IsOf, IsOrderOf, NoLf, Refuses, Sent, ServiceState, after_order, finished_state, seen, why_text}, Serve.{HasEnded, IsWhy, served, stopped, bytes_of, lines_messages, lost_text, refused_line_text, worst_case, IsServiceEnd}, declared.{service.{ServeFault.ServeFault, Served.Served, Ending.Ending}, order.{Order.Order, TheConstants.LINE_BYTES, Refusal.Refusal}, server.Server.Server, serving.Serving.Serving}}, proofs.Changes.appended}
+use Rattle.std.{proofs.{Common.{ℕ, ◌≡◌, ◌≢◌, ◌∙◌, ◌==◌, ◌||◌, ◌+◌, ◌-◌, ◌<◌, ◌≤◌, inl, inr, if◌then◌else◌, Bool, true, false, is_some, is_err, Option, Some, None, Result, Ok, Err, MatchResult, List, [], ◌∷◌, ◌++◌, codes, zero, suc, length, take, get_or, refl, ap, sym, subst, append_assoc, arith, ◌^◌, ◌↔◌, ◌⊎◌, IfErr}, KnownBytes.{Appends-trans, Consumes-kept, Consumes-trans}, Math.Seq.take-append-add, lemmas.List.{append-nil, length-append, take-append-le, take_more}}, specs.{Fmt.decimal, Io.KnownBytes.{IsAtEnd, Appends, Consumes, Keeps}, List.list_all, Result.{result_err, result_unwrap_or}, Option.option_map_or}}
+use Rattle.tc_serve.{specs.{Inside.{AllEnded, Closes, Counts, Fails, Feeds, IsAtLine, IsBadLine, IsEnd, IsFed, Serves, StandsAs, StopsIn, TakesPiece, TellsRun, Tries, TriesLine, Hears, IsAt, IsOwn, IsTurn, IsTaken, end_told, IsNobodys}, Protocol.{Comes, IsOf, IsOrderOf, NoLf, Refuses, Sent, ServiceState, after_order, finished_state, seen, why_text}, Serve.{HasEnded, IsWhy, served, stopped, bytes_of, lines_messages, refused_line_text, worst_case, IsServiceEnd}, declared.{service.{ServeFault.ServeFault, Served.Served, Ending.Ending}, order.{Order.Order, TheConstants.LINE_BYTES, Refusal.Refusal}, server.Server.Server, serving.Serving.Serving}}, proofs.Changes.appended}
 use Rattle.tc_stream.specs.Prelude.{AppendsPrefix}
 use Rattle.tc_rules.specs.Prelude.{Run}
 use Rattle.tc_rules.proofs.Lemmas.Deciding.{and_left, and_right}
@@ -54,6 +54,10 @@ refusal_is told a b d e f n why one two three four five =
 
 abbrev pub sent : List ℕ → Bool → Result Order (Refusal × Option Run) → Sent
 sent line ended came = record { bytes = line; ended = ended; came = came }
+
+-- the report of the line of this number, of which this came
+abbrev lost_text : ℕ → Result Order (Refusal × Option Run) → List ℕ
+lost_text n came = option_map_or (λ r. if is_some r.1 then [] else refused_line_text n r.0) (result_err came) []
 
 -- one more line, of which this came
 more : (ended : Bool) (line : List ℕ) (lines : List Sent) (s t : ServiceState) (v w : Serving) (came : Result Order (Refusal × Option Run)) (before out written before' told told' : List ℕ) → IsAtLine line lines s v before out before' told →
@@ -317,42 +321,17 @@ stops_close bytes before before' v out written told told' input end at_end same 
 
 -- ---- bytes
 
-consumes_join : (a b c : Option (List ℕ)) (x y : List ℕ) → Consumes a b x → Consumes b c y → Consumes a c (x ++ y)
-consumes_join None b c x y p q = tt
-consumes_join (Some u) None c x y p q = absurd p
-consumes_join (Some u) (Some v) None x y p q = absurd q
-consumes_join (Some u) (Some v) (Some w) x y p q = p ∙ (ap (λ l. x ++ l) q ∙ sym (append_assoc x y w))
-
-consumes_kept : (a b c : Option (List ℕ)) (x : List ℕ) → Consumes a b x → Keeps b c → Consumes a c x
-consumes_kept None b c x p q = tt
-consumes_kept (Some u) None c x p q = absurd p
-consumes_kept (Some u) (Some v) None x p q = absurd q
-consumes_kept (Some u) (Some v) (Some w) x p q = p ∙ ap (λ l. x ++ l) (sym q)
-
-appends_join : (a b c : Option (List ℕ)) (x y : List ℕ) → Appends a b x → Appends b c y → Appends a c (x ++ y)
-appends_join None b c x y p q = tt
-appends_join (Some u) None c x y p q = absurd p
-appends_join (Some u) (Some v) None x y p q = absurd q
-appends_join (Some u) (Some v) (Some w) x y p q = q ∙ (ap (λ l. l ++ y) p ∙ append_assoc u x y)
-
-take_behind : (x y : List ℕ) (n : ℕ) → take (length x + n) (x ++ y) ≡ x ++ take n y
-take_behind [] y n = ap (λ (k : ℕ). take k y) (zero-add n)
-take_behind (b ∷ bs) y n = ap (λ (k : ℕ). take k (b ∷ (bs ++ y))) (suc-add (length bs) n) ∙ ap (λ (l : List ℕ). b ∷ l) (take_behind bs y n)
-
-take_before : (x y : List ℕ) (n : ℕ) → n ≤ length x → take n (x ++ y) ≡ take n x
-take_before x y n within = grind (arith, common_steps)
-
 prefix_behind : (a b c : Option (List ℕ)) (x y : List ℕ) → Appends a b x → AppendsPrefix b c y → AppendsPrefix a c (x ++ y)
 prefix_behind a b c x y p q =
-    (length x + q.0, omega (arith, q.1, length-append x y), rw (take_behind x y q.0) (appends_join a b c x (take q.0 y) p q.2))
+    (length x + q.0, omega (arith, q.1, length-append x y), rw (take-append-add x y q.0) (Appends-trans a b c x (take q.0 y) p q.2))
 
 prefix_longer : (a b : Option (List ℕ)) (x y : List ℕ) → AppendsPrefix a b x → AppendsPrefix a b (x ++ y)
-prefix_longer a b x y p = (p.0, omega (arith, p.1, length-append x y), rw (take_before x y p.0 p.1) p.2)
+prefix_longer a b x y p = (p.0, omega (arith, p.1, length-append x y), rw (take-append-le p.0 x y p.1) p.2)
 
 -- ---- reports
 
 told_join : (heard told : Bool) (a b c : Option (List ℕ)) (x y : List ℕ) → IsTaken heard a b x → Hears heard told b c y → IsTaken told a c (x ++ y)
-told_join true true a b c x y p q = appends_join a b c x y p q
+told_join true true a b c x y p q = Appends-trans a b c x y p q
 told_join true false a b c x y p q = prefix_behind a b c x y p q
 told_join false true a b c x y p q = absurd (let e = q.0 in cc)
 told_join false false a b c x y p q = prefix_longer a c x y (subst (λ (o : Option (List ℕ)). AppendsPrefix a o x) (sym q.1) p)
@@ -399,18 +378,18 @@ module _ (input left output output' errors errors' : Option (List ℕ)) (told : 
   uncounted most = stopped_at left ServeFault.TooLong at_.read (subst (λ (l : List ℕ). 2 ^ 64 - 1 ≤ length l) at_.fed.parts (omega (arith, most, at_.many)))
 
   pub unread : (rest : Option (List ℕ)) → Keeps left rest → IsServiceEnd input rest output output' errors errors' (ending (Err ServeFault.Read) told)
-  unread rest kept = stopped_at rest ServeFault.Read (consumes_kept input left rest at_.bytes at_.read kept) at_.fed.last_is
+  unread rest kept = stopped_at rest ServeFault.Read (Consumes-kept input left rest at_.bytes at_.read kept) at_.fed.last_is
 
 module _ (input left rest printed output output' reported errors errors' : Option (List ℕ)) (heard told : Bool) (turns : ℕ) (v w : Serving) (chunk out said : List ℕ) (at_ : IsAt input left printed output reported errors heard turns v) (read : Consumes left rest chunk)
     (hears : Hears heard told errors errors' said) where
   all_read : Consumes input rest (at_.bytes ++ chunk)
-  all_read = consumes_join input left rest at_.bytes chunk at_.read read
+  all_read = Consumes-trans input left rest at_.bytes chunk at_.read read
 
   reports : IsTaken told reported errors' (at_.before' ++ said)
   reports = told_join heard told reported errors errors' at_.before' said at_.told_is hears
 
   written_whole : Appends output output' out → Appends printed output' (at_.before ++ out)
-  written_whole wrote = appends_join printed output output' at_.before out at_.written wrote
+  written_whole wrote = Appends-trans printed output output' at_.before out at_.written wrote
 
   -- this was due, and that came of it
   ends : (due o : Result Served ServeFault) → HasEnded (at_.bytes ++ chunk) rest (at_.before ++ out) (at_.before' ++ said) due →

@@ -1,5 +1,5 @@
 -- No run that can continue is left asleep: one pass over the runs, in the order of their numbers, wakes all that can.
-use Rattle.std.{proofs.{Common.{ℕ, ◌≡◌, ◌≢◌, ◌<◌, ◌≤◌, ◌==◌, ◌&&◌, ◌||◌, ◌⊎◌, inl, inr, not, if◌then◌else◌, zero, suc, Bool, true, false, Option, Some, None, List, [], ◌∷◌, ◌++◌, drop, refl, ap, sym, subst, ◌∙◌, arith}, lemmas.Bool.Decides.nat_tests}, specs.List.{AllByRecursion, list_any, list_all}}
+use Rattle.std.{proofs.{Common.{ℕ, ◌≡◌, ◌≢◌, ◌<◌, ◌≤◌, ◌==◌, ◌&&◌, ◌||◌, ◌⊎◌, inl, inr, not, if◌then◌else◌, zero, suc, Bool, true, false, Option, Some, None, List, [], ◌∷◌, ◌++◌, drop, refl, ap, sym, subst, ◌∙◌, arith}, lemmas.Bool.Decides.nat_tests}, specs.List.{list_any, list_all}}
 use Rattle.tc_rules.{specs.{Prelude.{Run, Comp, Entry, Op, Target, Phase, Fault, Reply, add_new, comp_of, comps, created, exists, phase, done, is_done, is_killed, is_running, killed, holds, is_still, is_stuck, parks, waiting, waits_in_vain, all_exist, fault, answer, answer_unless, is_active, is_active_on, local_reply, plain_answer, is_quiet, keeps_phases, IsLegal, wake_op}, declared.awaited.Awaited.Awaited}, proofs.Lemmas.{Deciding.{equal_if, self_equal}, Going.last_on_it, Kept.list_all-same, Quiet.{Quiet, no_new_fault, quiet_wakes_nobody, same_active, same_phase}, Stuck.phase_running, Sound.plain_if}}
 use Rattle.tc_blocks.specs.{declared.line.Line.Line, Prelude.{entries_of, entry_in}}
 use Rattle.tc_serve.{specs.{Inside.{after_call, wakes_nobody, with_line, called, IsSettled}, Laws.AllServed, Protocol.{Played, moved, played_past, woken, woken_from}}, proofs.{Evident.{IsSound, all_legal, made_sound, no_entry, note_sound}, Changes.{all_served, also_served}}}

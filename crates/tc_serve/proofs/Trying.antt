@@ -1,8 +1,8 @@
 -- What a line tries, and the calls that it makes.
-use Rattle.std.{proofs.{Common.{ℕ, ◌≡◌, ◌≢◌, ◌∙◌, ◌<◌, ◌^◌, nat_lt, if◌then◌else◌, Bool, true, false, is_some, not, inl, inr, Option, Some, None, Result, Ok, Err, is_err, MatchResult, List, [], ◌∷◌, ◌++◌, refl, ap, sym, subst, ◌==◌, ◌||◌, ◌&&◌, append_assoc, arith}}, specs.{Option.option_map_or, Result.{result_map_both, result_err}}}
-use Rattle.tc_rules.{specs.{Prelude.{Comp, Run, Verdict, worse, overall, Entry, Op, Reply, answer, IsReplyOf, Kept, StandsFor, TakesIn, keeps_phases, IsLegal, is_wake, started_run, waiting}}, proofs.Lemmas.Standing.legal_for}
+use Rattle.std.{proofs.{Common.{ℕ, ◌≡◌, ◌≢◌, ◌∙◌, ◌<◌, ◌^◌, if◌then◌else◌, Bool, true, false, is_some, not, inl, inr, Option, Some, None, Result, Ok, Err, is_err, MatchResult, List, [], ◌∷◌, ◌++◌, refl, ap, sym, subst, ◌==◌, ◌||◌, append_assoc, arith}}, specs.{Option.option_map_or, Result.{result_map_both, result_err}}}
+use Rattle.tc_rules.{specs.{Prelude.{Comp, Run, Verdict, worse, overall, Entry, Op, Reply, answer, IsReplyOf, Kept, StandsFor, TakesIn, keeps_phases, IsLegal, started_run}}, proofs.Lemmas.Standing.legal_for}
 use Rattle.tc_blocks.specs.{Prelude.{end_text, with_lf, header_text, entry_in, is_met, line_text, starts, AreMet}, declared.{line.Line.Line, met.MetRuns.MetRuns}}
-use Rattle.tc_serve.{specs.{Inside.{Changes, IsCurrent, IsOpen, Rests, StandsAs, TellsRun, Tries, TriesLine, with_line, AreAwake, Becomes, Holds, IsCalled, IsKept, IsText, Moves, after_call, entry, wakes_nobody, called, counted, IsNobodys}, Protocol.{IsOf, IsOrder, IsOrderOf, IsWhyNothing, Played, Refuses, ServiceState, after_order, order_text, played_past, refused, why_text, with_added_line, with_open, made, moved, woken}, Serve.{case_header, stand_text}, declared.{open_case.OpenCase.OpenCase, order.{Order.Order, Refusal.Refusal}, server.Server.Server}}, proofs.{Changes.{appended, begins, ends, grows, line_more}, Settled.{new_settled, moved_settled, nobody_woken, noted_settled}}}
+use Rattle.tc_serve.{specs.{Inside.{Changes, IsCurrent, IsOpen, Rests, StandsAs, TellsRun, Tries, TriesLine, with_line, AreAwake, Becomes, Holds, IsCalled, IsKept, IsText, Moves, after_call, entry, wakes_nobody, called, counted}, Protocol.{IsOf, IsOrder, IsOrderOf, IsWhyNothing, Played, ServiceState, after_order, order_text, played_past, refused, with_open, made, moved, woken}, Serve.{case_header, stand_text}, declared.{open_case.OpenCase.OpenCase, order.{Order.Order, Refusal.Refusal}, server.Server.Server}}, proofs.{Changes.{appended, begins, made_is, ends, grows, line_more}, Settled.{new_settled, moved_settled, nobody_woken, noted_settled}}}
 
 abbrev pub server : Option OpenCase → Verdict → Server
 server c w = record { current = c; worst = w }
@@ -117,24 +117,28 @@ closing v held left own all out written is none owns alls appends s before stand
 
 -- ---- lines
 
+-- what was tried was done, or it was refused for this
+module _ (A : ServiceState → Type 0) (B : Type 0) where
+  was_done : (r : Result ServiceState Refusal) → MatchResult r (λ t. (◌≡◌ {A = Option Refusal} None None) × A t) (λ e. (◌≡◌ {A = Option Refusal} None (Some e)) × B) → (t : ServiceState) × (r ≡ Ok t) × A t
+  was_done (Ok t) so = (t, refl, so.1)
+  was_done (Err e) so = absurd (let same = so.0 in cc)
+
+  was_refused : (why : Refusal) (r : Result ServiceState Refusal) → MatchResult r (λ t. (◌≡◌ {A = Option Refusal} (Some why) None) × A t) (λ e. (◌≡◌ {A = Option Refusal} (Some why) (Some e)) × B) →
+      (r ≡ Err why) × B
+  was_refused why (Ok t) so = absurd (let same = so.0 in cc)
+  was_refused why (Err e) so =
+      let is : ◌≡◌ {A = Option Refusal} (Some why) (Some e) = so.0 in
+      let same : e ≡ why = cc in
+      subst (λ (x : Refusal). (◌≡◌ {A = Result ServiceState Refusal} (Err e) (Err x)) × B) same (refl, so.1)
+
 -- the line asks for this, which is tried
 pub asked_by : (line : List ℕ) (o : Order) (why : Option Refusal) (v w : Server) (out written : List ℕ) → IsOrder o → line ≡ order_text o → Tries (λ s. after_order s o) why v w out written → TriesLine true line why v w out written
-asked_by line o None v w out written fits spelled tries = λ s before stands. by_taken s before (after_order s o) refl (tries s before stands)
-  where
-    by_taken : (s : ServiceState) (before : List ℕ) (r : Result ServiceState Refusal) → after_order s o ≡ r →
-        MatchResult r (λ t. (◌≡◌ {A = Option Refusal} None None) × StandsAs w t before written) (λ e. (◌≡◌ {A = Option Refusal} None (Some e)) × StandsAs w s before written) →
-        (o : Order) × (t : ServiceState) × IsOrderOf true line o × (after_order s o ≡ Ok t) × StandsAs w t before written
-    by_taken s before (Err e) is so = absurd (let same = so.0 in cc)
-    by_taken s before (Ok t) is so = (o, t, (refl, fits, spelled), is, so.1)
-asked_by line o (Some why) v w out written fits spelled tries = λ s before stands. by_taken s before (after_order s o) refl (tries s before stands)
-  where
-    same_why : (e : Refusal) → ◌≡◌ {A = Option Refusal} (Some why) (Some e) → e ≡ why
-    same_why e same = cc
-
-    by_taken : (s : ServiceState) (before : List ℕ) (r : Result ServiceState Refusal) → after_order s o ≡ r →
-        MatchResult r (λ t. (◌≡◌ {A = Option Refusal} (Some why) None) × StandsAs w t before written) (λ e. (◌≡◌ {A = Option Refusal} (Some why) (Some e)) × StandsAs w s before written) → Refuses why true line s × StandsAs w s before written
-    by_taken s before (Err e) is so = (inl (o, (refl, fits, spelled), is ∙ ap (λ (e : Refusal). Err e) (same_why e so.0)), so.1)
-    by_taken s before (Ok t) is so = absurd (let same = so.0 in cc)
+asked_by line o None v w out written fits spelled tries = λ s before stands.
+    let so = was_done (λ t. StandsAs w t before written) (StandsAs w s before written) (after_order s o) (tries s before stands) in
+    (o, so.0, (refl, fits, spelled), so.1, so.2)
+asked_by line o (Some why) v w out written fits spelled tries = λ s before stands.
+    let so = was_refused (λ t. StandsAs w t before written) (StandsAs w s before written) why (after_order s o) (tries s before stands) in
+    (inl (o, (refl, fits, spelled), so.0), so.1)
 
 -- it asks for nothing
 pub nothing_asked : (with_lf : Bool) (line : List ℕ) (why : Refusal) (v : Server) (out : List ℕ) → ((o : Order) → IsOrderOf with_lf line o → ⊥) → IsWhyNothing why with_lf line → TriesLine with_lf line (Some why) v v out out
@@ -157,20 +161,12 @@ pub tells_run : (line : List ℕ) (r : Run) (why : Refusal) (other : Option Refu
     TellsRun line why told v w out written
 tells_run line r why None false v w out written is of_run that tries = absurd cc
 tells_run line r why (Some x) true v w out written is of_run that tries = absurd cc
-tells_run line r why None true v w out written same of_run that tries = λ s before stands. by_told s before (refused s r why) refl (tries s before stands)
-  where
-    by_told : (s : ServiceState) (before : List ℕ) (x : Result ServiceState Refusal) → refused s r why ≡ x →
-        MatchResult x (λ t. (◌≡◌ {A = Option Refusal} None None) × StandsAs w t before written) (λ e. (◌≡◌ {A = Option Refusal} None (Some e)) × StandsAs w s before written) →
-        (run : Run) × (t : ServiceState) × IsOf line run.0 × (refused s run why ≡ Ok t) × StandsAs w t before written
-    by_told s before (Err e) is so = absurd (let same = so.0 in cc)
-    by_told s before (Ok t) is so = (r, t, of_run, is, so.1)
-tells_run line r why (Some x) false v w out written same of_run that tries = λ s before stands. by_told s before (refused s r why) refl (tries s before stands)
-  where
-    by_told : (s : ServiceState) (before : List ℕ) (y : Result ServiceState Refusal) → refused s r why ≡ y →
-        MatchResult y (λ t. (◌≡◌ {A = Option Refusal} (Some x) None) × StandsAs w t before written) (λ e. (◌≡◌ {A = Option Refusal} (Some x) (Some e)) × StandsAs w s before written) → IsNobodys line why s × StandsAs w s before written
-    by_told s before (Err e) is so =
-        (λ run low of_run. subst (λ (b : Run). is_err (refused s b why) ≡ true) (same_run r run (that run.0 low of_run)) (ap (λ (y : Result ServiceState Refusal). is_err y) is), so.1)
-    by_told s before (Ok t) is so = absurd (let same = so.0 in cc)
+tells_run line r why None true v w out written same of_run that tries = λ s before stands.
+    let so = was_done (λ t. StandsAs w t before written) (StandsAs w s before written) (refused s r why) (tries s before stands) in
+    (r, so.0, of_run, so.1, so.2)
+tells_run line r why (Some x) false v w out written same of_run that tries = λ s before stands.
+    let so = was_refused (λ t. StandsAs w t before written) (StandsAs w s before written) x (refused s r why) (tries s before stands) in
+    (λ run low of_run. subst (λ (b : Run). is_err (refused s b why) ≡ true) (same_run r run (that run.0 low of_run)) (ap (λ (y : Result ServiceState Refusal). is_err y) so.0), so.1)
 
 -- the line begins with no run
 pub of_nobody : (line : List ℕ) (why : Refusal) (v : Server) (out : List ℕ) → ((run : ℕ) → run < 2 ^ 16 → IsOf line run → ⊥) → TellsRun line why false v v out out
@@ -202,18 +198,8 @@ noted v w p l closed before out written holds none state waited met appends =
 
 -- ---- a change that may be made, and one that may not
 
-module _ (t : Bool) (r : Result Played Refusal) (e : Refusal) (P : Played → Type 0) (Q : Refusal → Type 0) where
-  pub may_change : t ≡ true → MatchResult r P Q → MatchResult (if t then r else Err e) P Q
-  may_change may holds = subst (λ (x : Bool). MatchResult (if x then r else Err e) P Q) (sym may) holds
-
-  pub may_not : t ≡ false → Q e → MatchResult (if t then r else Err e) P Q
-  may_not not_may holds = subst (λ (x : Bool). MatchResult (if x then r else Err e) P Q) (sym not_may) holds
-
-  pub is_barred : t ≡ true → Q e → MatchResult (if t then Err e else r) P Q
-  is_barred barred holds = subst (λ (x : Bool). MatchResult (if x then Err e else r) P Q) (sym barred) holds
-
-  pub is_free : t ≡ false → MatchResult r P Q → MatchResult (if t then Err e else r) P Q
-  is_free free holds = subst (λ (x : Bool). MatchResult (if x then Err e else r) P Q) (sym free) holds
+pub by_test : (t s : Bool) (r e : Result Played Refusal) (P : Played → Type 0) (Q : Refusal → Type 0) → t ≡ s → MatchResult (if s then r else e) P Q → MatchResult (if t then r else e) P Q
+by_test t s r e P Q same holds = subst (λ (x : Bool). MatchResult (if x then r else e) P Q) (sym same) holds
 
 -- ---- a call
 
@@ -270,26 +256,16 @@ call_made v w caller op reply out written replied takes behaviours waited met ap
 
 -- ---- a call that is barred, and one that is not
 
-pub made_not : (why : Refusal) (p : Played) (caller : Run) (op : Op) (P : Played → Type 0) (Q : Refusal → Type 0) → Some why ≡ result_err (made caller op p) → Q why → MatchResult (made caller op p) P Q
-made_not why p caller op P Q barred holds = by_tests (is_wake op) (nat_lt caller.0 p.behaviours && is_some (waiting (played_past p) caller.0)) barred
-  where
-    by_why : (e : Refusal) → ◌≡◌ {A = Option Refusal} (Some why) (Some e) → Q e
-    by_why e is = let same : why ≡ e = cc in subst Q same holds
+pub barred : (r : Result Played Refusal) (P : Played → Type 0) (Q : Refusal → Type 0) (why : Refusal) → Some why ≡ result_err r → Q why → MatchResult r P Q
+barred (Ok q) P Q why is holds = absurd cc
+barred (Err e) P Q why is holds = let same : why ≡ e = cc in subst Q same holds
 
-    by_tests : (a b : Bool) → ◌≡◌ {A = Option Refusal} (Some why) (result_err (if a then Err Refusal.Wake else if b then Err Refusal.Waiting else Ok (moved p caller op))) →
-        MatchResult (if a then Err Refusal.Wake else if b then Err Refusal.Waiting else Ok (moved p caller op)) P Q
-    by_tests true b is = by_why Refusal.Wake is
-    by_tests false true is = by_why Refusal.Waiting is
-    by_tests false false is = absurd cc
+allowed : (r : Result Played Refusal) (P : Played → Type 0) (Q : Refusal → Type 0) → None ≡ result_err r → ((q : Played) → r ≡ Ok q → P q) → MatchResult r P Q
+allowed (Ok q) P Q is holds = holds q refl
+allowed (Err e) P Q is holds = absurd cc
 
 pub made_so : (p : Played) (caller : Run) (op : Op) (P : Played → Type 0) (Q : Refusal → Type 0) → ◌≡◌ {A = Option Refusal} None (result_err (made caller op p)) → P (moved p caller op) → MatchResult (made caller op p) P Q
-made_so p caller op P Q free holds = by_tests (is_wake op) (nat_lt caller.0 p.behaviours && is_some (waiting (played_past p) caller.0)) free
-  where
-    by_tests : (a b : Bool) → ◌≡◌ {A = Option Refusal} None (result_err (if a then Err Refusal.Wake else if b then Err Refusal.Waiting else Ok (moved p caller op))) →
-        MatchResult (if a then Err Refusal.Wake else if b then Err Refusal.Waiting else Ok (moved p caller op)) P Q
-    by_tests true b is = absurd cc
-    by_tests false true is = absurd cc
-    by_tests false false is = holds
+made_so p caller op P Q free holds = allowed (made caller op p) P Q free (λ q is. subst P (made_is caller op p q is).1 holds)
 
 -- ---- a call, and who is woken by it
 

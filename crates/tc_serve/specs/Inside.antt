@@ -1,9 +1,9 @@
 -- What the functions inside say.
-use Rattle.std.specs.{Prelude.{ℕ, ◌≡◌, ◌+◌, ◌-◌, ◌<◌, ◌≤◌, ◌^◌, if◌then◌else◌, Bool, true, false, is_some, Option, Some, None, Result, Ok, Err, List, [], ◌∷◌, ◌++◌, length, MatchBool, MatchResult, codes, is_err}, Io.KnownBytes.{Appends, Consumes}, List.list_any}
+use Rattle.std.specs.{Prelude.{ℕ, ◌≡◌, ◌+◌, ◌-◌, ◌<◌, ◌≤◌, ◌^◌, if◌then◌else◌, Bool, true, false, is_some, Option, Some, None, Result, Ok, Err, List, [], ◌∷◌, ◌++◌, length, MatchBool, MatchResult, codes, is_err}, Io.KnownBytes.{Appends, Consumes}, List.{list_all, list_any}}
 use Rattle.tc_stream.specs.Prelude.{AppendsPrefix}
 use Rattle.tc_rules.specs.{Prelude.{Run, IsBehaviours, Kept, StandsFor, waiting, Entry, Op, Reply, entry_made, Verdict, is_over, overall, answer, wake_op}, declared.awaited.Awaited.Awaited}
 use Rattle.tc_blocks.specs.{declared.{line.Line.Line, met.MetRuns.MetRuns}, Prelude.{entries_of, AreMet}}
-use Rattle.tc_serve.specs.{Protocol.{AllEnded, AreServed, IsOf, IsOrderOf, NoLf, OpensNone, Played, Refuses, Sent, ServiceState, after_order, finished_state, moved, order_text, played_past, refused, seen, woken_from}, Serve.{HasEnded, bytes_of, lines_messages, stand_text, worst_case}, declared.{service.{ServeFault.ServeFault, Served.Served}, open_case.OpenCase.OpenCase, order.{Order.Order, Refusal.Refusal}, server.Server.Server, serving.Serving.Serving}}
+use Rattle.tc_serve.specs.{Protocol.{AreServed, IsOf, IsOrderOf, NoLf, OpensNone, Played, Refuses, Sent, ServiceState, after_order, finished_state, moved, order_text, played_past, refused, seen, woken_from}, Serve.{HasEnded, bytes_of, lines_messages, stand_text, worst_case}, declared.{service.{ServeFault.ServeFault, Served.Served}, open_case.OpenCase.OpenCase, order.{Order.Order, Refusal.Refusal}, server.Server.Server, serving.Serving.Serving}}
 
 -- the verdict that a test case counts as: error if it is not over
 abbrev pub counted : Played → Verdict
@@ -161,6 +161,10 @@ TellsRun line why true v w out written = (s : ServiceState) (before : List ℕ) 
 TellsRun line why false v w out written = (s : ServiceState) (before : List ℕ) → StandsAs v s before out → IsNobodys line why s × StandsAs w s before written
 
 -- ---- lines that come in pieces
+
+-- each of these lines was ended by LF
+abbrev pub AllEnded : List Sent → Type 0
+AllEnded lines = list_all (λ l. l.ended) lines ≡ true
 
 -- what goes to standard error in all, if the input ends after these lines in this state
 abbrev pub told_at_end : List Sent → ServiceState → List ℕ

@@ -157,14 +157,10 @@ NoLf bytes = AllByRecursion (λ b. (b == 10) ≡ false) bytes
 abbrev pub seen : List ℕ → List ℕ
 seen line = take LINE_BYTES line
 
--- each of these lines was ended by LF
-abbrev pub AllEnded : List Sent → Type 0
-AllEnded lines = list_all (λ l. l.ended) lines ≡ true
-
 -- these lines came, the newest first in the list, and this is the state after them; only the last may lack its LF
 abbrev pub AreServed : List Sent → ServiceState → Type 0
 AreServed [] s = s ≡ record { closed = []; current = None }
-AreServed (l ∷ before) t = (s : ServiceState) × AreServed before s × AllEnded before × NoLf l.bytes × Comes l.came l.ended (seen l.bytes) s t
+AreServed (l ∷ before) t = (s : ServiceState) × AreServed before s × (list_all (λ l. l.ended) before ≡ true) × NoLf l.bytes × Comes l.came l.ended (seen l.bytes) s t
 
 -- the state after the end of the input: the test case that is open is closed, if one is
 abbrev pub finished_state : ServiceState → ServiceState

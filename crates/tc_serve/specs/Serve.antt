@@ -1,8 +1,8 @@
 -- The service: what is written and reported of the lines that came, what their verdicts come to, and how it ends.
-use Rattle.std.specs.{Prelude.{MatchBool, ℕ, ◌+◌, if◌then◌else◌, List, [], ◌∷◌, ◌++◌, codes, length, map, reverse, ◌≡◌, ◌≢◌, ◌-◌, ◌≤◌, ◌^◌, ◌⊎◌, true, false, is_some, is_err, Option, None, Result, Ok, Err}, Fmt.decimal, List.{flat_map, list_any}, Option.option_map_or, Io.KnownBytes.{Appends, Consumes, IsAtEnd}}
-use Rattle.tc_rules.specs.Prelude.{Run, Verdict, worst, overall, is_over}
+use Rattle.std.specs.{Prelude.{MatchBool, ℕ, ◌+◌, if◌then◌else◌, List, [], ◌∷◌, ◌++◌, codes, length, map, reverse, ◌≡◌, ◌≢◌, ◌-◌, ◌≤◌, ◌^◌, ◌⊎◌, true, false, is_some, is_err, Option, Result, Ok, Err}, Fmt.decimal, List.{flat_map, list_all, list_any}, Option.option_map_or, Result.result_err, Io.KnownBytes.{Appends, Consumes, IsAtEnd}}
+use Rattle.tc_rules.specs.Prelude.{Verdict, worst, overall, is_over}
 use Rattle.tc_blocks.specs.{Prelude.{end_text, line_text, with_lf, header_text}, declared.header.{Header.Header, Kind.Kind}}
-use Rattle.tc_serve.specs.{Protocol.{Played, Sent, ServiceState, played_past, why_text, AllEnded, AreServed, NoLf, Refuses, finished_state, seen}, declared.{order.{Order.Order, Refusal.Refusal}, service.{ServeFault.ServeFault, Ending.Ending, Served.Served}}}
+use Rattle.tc_serve.specs.{Protocol.{Played, Sent, ServiceState, played_past, why_text, AreServed, NoLf, Refuses, finished_state, seen}, declared.{order.Refusal.Refusal, service.{ServeFault.ServeFault, Ending.Ending, Served.Served}}}
 use Rattle.tc_stream.specs.Prelude.{AppendsPrefix}
 
 -- what the first line of its evidence says
@@ -34,15 +34,11 @@ bytes_of (l ∷ before) = bytes_of before ++ (l.bytes ++ (if l.ended then 10 ∷
 abbrev pub refused_line_text : ℕ → Refusal → List ℕ
 refused_line_text n why = codes "ttrun: line " ++ (decimal n ++ (codes ": " ++ (why_text why ++ (10 ∷ []))))
 
--- what goes there about the line of this number, if no run got its refusal
-abbrev pub lost_text : ℕ → Result Order (Refusal × Option Run) → List ℕ
-lost_text n (Err (why, None)) = refused_line_text n why
-lost_text n _ = []
-
--- and about these lines, the newest first
+-- what goes there about these lines, the newest first: each that is refused, and whose refusal no run got, has its line
 abbrev pub lines_messages : List Sent → List ℕ
 lines_messages [] = []
-lines_messages (l ∷ before) = lines_messages before ++ lost_text (length before + 1) l.came
+lines_messages (l ∷ before) = lines_messages before
+    ++ option_map_or (λ r. if is_some r.1 then [] else refused_line_text (length before + 1) r.0) (result_err l.came) []
 
 -- why no further line was served: the next is refused outside a test case, or 2^64 - 1 bytes came, or a read failed, before
 -- which each line that had ended was served. If no LF ends the next line, the input ends with it
@@ -63,7 +59,7 @@ pub data HasEnded (bytes : List ℕ) (input : Option (List ℕ)) (text reports :
       → HasEnded bytes input text reports (Ok r)
   -- or this fault came: these lines were served, and the rest was not; only a last line of the input may lack its LF
   stopped : (lines : List Sent) (s : ServiceState) (rest : List ℕ) (f : ServeFault) → AreServed lines s → bytes ≡ bytes_of lines ++ rest
-      → AllEnded lines ⊎ ((rest ≡ []) × IsAtEnd input) → IsWhy f lines s rest input
+      → (list_all (λ l. l.ended) lines ≡ true) ⊎ ((rest ≡ []) × IsAtEnd input) → IsWhy f lines s rest input
       → text ≡ stand_text s → reports ≡ lines_messages lines → HasEnded bytes input text reports (Err f)
 
 -- the service ended as was due, and its text was written; or the output failed, and took a prefix of it. Standard error took

@@ -1,10 +1,9 @@
 //! A test case that is open.
 ghost use Rattle.std.specs.{Prelude.{◌≡◌, ◌<◌, ◌++◌, ◌∷◌, [], nat_lt, true, ℕ, List, IfOk, OnOk, ◌&&◌}, Io.StartsWith, Result.result_err};
 ghost use Rattle.tc_rules.specs.Prelude.{IsBehaviours, Reply as AnyReply};
-ghost use Rattle.tc_rules.specs.Local as verdicts;
 ghost use Rattle.tc_text.specs.Prelude.{move_text};
 ghost use Rattle.tc_blocks.specs.Prelude.{outcome_text, with_lf, entry_in, is_met, AreMet};
-ghost use Rattle.tc_serve.specs.{Inside.{Becomes, Changes, IsCalled, IsOpen, Moves, after_call, entry, wakes_nobody as spec_wakes_nobody, woken_once, called, counted as spec_counted}, Protocol.{Played as AnyPlayed, made, played_past, why_text, with_added_line, with_name, woken}};
+ghost use Rattle.tc_serve.specs.{Inside.{Becomes, Changes, IsCalled, IsOpen, Moves, after_call, entry, wakes_nobody as spec_wakes_nobody, woken_once, called, counted as spec_counted}, Protocol.{Played as AnyPlayed, made, why_text, with_added_line, with_name, woken}};
 
 use crate::order::{Refusal, Tried};
 use std::alloc::Global;
@@ -17,7 +16,7 @@ use tc_text::{append_text, write_move, write_reply};
 #[derive(Drop)]
 pub(crate) struct OpenCase {
     /// What is kept of its history.
-    state: CaseState,
+    pub state: CaseState,
     /// Only runs before this one can sleep: after a call only these may be woken.
     waited: u16,
     /// The runs that some line is about.
@@ -232,13 +231,6 @@ impl OpenCase {
         }
         self.play(caller, op, line, out)?;
         Ok(None)
-    }
-
-    /// The overall verdict.
-    pub fn overall(&self) -> Verdict
-        ensures { (p : AnyPlayed) → IsOpen self.now p → result ≡ verdicts.overall (played_past p) }
-    {
-        self.state.overall()
     }
 
     /// The verdict that the test case counts as: error if it is not over.

@@ -1,8 +1,8 @@
 //! What is done with a line.
-ghost use Rattle.std.specs.{Prelude.{◌≡◌, ◌<◌, ◌^◌, [], ℕ, List, is_some, true, Some, IfOk, MatchOption}, Io.StartsWith};
+ghost use Rattle.std.specs.{Prelude.{◌≡◌, ◌<◌, ◌^◌, [], ℕ, List, true, Some, IfOk, MatchOption}, Io.StartsWith};
 ghost use Rattle.tc_rules.specs.Prelude.{IsBehaviours};
 ghost use Rattle.tc_text.specs.Prelude.{move_text};
-ghost use Rattle.tc_serve.specs.{Inside.StandsAs, Inside.TellsRun, Inside.Tries, Inside.TriesLine, Inside.start as spec_start, Protocol.IsOf, Protocol.IsOrder, Protocol.ServiceState as AnyStand, Protocol.after_order, Protocol.made, Protocol.order_text, Protocol.with_added_line, Protocol.with_name, Protocol.with_open, Serve.worst_case};
+ghost use Rattle.tc_serve.specs.{Inside.StandsAs, Inside.TellsRun, Inside.Tries, Inside.TriesLine, Inside.start as spec_start, Protocol.IsOf, Protocol.IsOrder, Protocol.after_order, Protocol.made, Protocol.order_text, Protocol.with_added_line, Protocol.with_name, Protocol.with_open};
 
 use crate::open_case::OpenCase;
 use crate::order::{Order, Refusal, Tried, read_order};
@@ -14,8 +14,9 @@ use tc_verdict::worse_of;
 /// The test case that is open, if one is, and the worst verdict of those that were closed.
 #[derive(Drop)]
 pub(crate) struct Server {
-    current: Option<OpenCase>,
-    worst: Verdict,
+    pub current: Option<OpenCase>,
+    /// Each that was not over counts as error.
+    pub worst: Verdict,
 }
 
 // The run that the line begins with.
@@ -39,20 +40,6 @@ impl Server {
             current: None,
             worst: Verdict::None,
         }
-    }
-
-    /// Whether a test case is open.
-    pub fn is_open(&self) -> bool
-        ensures { (s : AnyStand) (before out : List ℕ) → StandsAs self.now s before out → result ≡ is_some s.current }
-    {
-        self.current.is_some()
-    }
-
-    /// The worst verdict of the test cases that were closed; one that was not over counts as error.
-    pub fn worst(&self) -> Verdict
-        ensures { (s : AnyStand) (before out : List ℕ) → StandsAs self.now s before out → result ≡ worst_case s }
-    {
-        self.worst
     }
 
     // Opens a test case, if none is open; why it is refused, if it is.
@@ -117,7 +104,7 @@ impl Server {
         let Some(held) = self.current.take() else {
             return Ok(Some(Refusal::NoCase));
         };
-        append_end(out, held.overall())?;
+        append_end(out, held.state.overall())?;
         self.worst = worse_of(self.worst, held.counted());
         Ok(None)
     }

@@ -96,7 +96,7 @@ impl Serving {
         let Some(why) = self.server.try_line(ended, line, &mut texts.out)? else {
             return Ok(());
         };
-        if !self.server.is_open() {
+        if self.server.current.is_none() {
             return Err(ServeFault::Line(self.lines, why));
         }
         self.refused = true;
@@ -221,7 +221,7 @@ impl Serving {
     {
         let written = texts.out.len();
         let said = texts.told.len();
-        append_end(&mut texts.told, self.server.is_open())?;
+        append_end(&mut texts.told, self.server.current.is_some())?;
         match self.server.close(&mut texts.out) {
             Ok(_) => Ok(()),
             Err(NoMemory) => {
@@ -244,7 +244,7 @@ impl Serving {
         }
         match self.close(texts) {
             Ok(()) => Ok(Served {
-                worst: self.server.worst(),
+                worst: self.server.worst,
                 refused: self.refused,
             }),
             Err(NoMemory) => Err(ServeFault::NoMemory),

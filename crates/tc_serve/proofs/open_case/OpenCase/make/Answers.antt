@@ -1,9 +1,9 @@
 use Rattle.std.proofs.Common.{◌∙◌, refl, sym}
-use Rattle.tc_serve.proofs.Trying.{made_not, made_so, moves_rest}
+use Rattle.tc_serve.{specs.Protocol.made, proofs.Trying.{barred, made_so, moves_rest}}
 use Rattle.tc_serve.proofs.open_case.OpenCase.make.Goals as goal
 
 pub returns-in-Some-clause-ok : goal.returns-in-Some-clause-ok
-returns-in-Some-clause-ok c p closed before rests = made_not c.in-Some.why p c.args.caller c.args.op _ _ (sym c.in-Some.is ∙ c.bar.ensures p rests.is.opened) (refl, rests)
+returns-in-Some-clause-ok c p closed before rests = barred (made c.args.caller c.args.op p) _ _ c.in-Some.why (sym c.in-Some.is ∙ c.bar.ensures p rests.is.opened) (refl, rests)
 
 pub returns-clause-ok : goal.returns-clause-ok
 returns-clause-ok c p closed before rests =
