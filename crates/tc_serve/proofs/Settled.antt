@@ -1,5 +1,5 @@
 -- No run that can continue is left asleep: one pass over the runs, in the order of their numbers, wakes all that can.
-use Rattle.std.{proofs.{Common.{ℕ, ◌≡◌, ◌≢◌, ◌<◌, ◌≤◌, ◌==◌, ◌&&◌, ◌||◌, ◌⊎◌, inl, inr, not, if◌then◌else◌, zero, suc, Bool, true, false, Option, Some, None, List, [], ◌∷◌, ◌++◌, drop, refl, ap, sym, subst, ◌∙◌, arith}, lemmas.Bool.Decides.nat_tests}, specs.List.{list_any, list_all}}
+use Rattle.std.{proofs.{Common.{ℕ, ◌≡◌, ◌≢◌, ◌<◌, ◌≤◌, ◌==◌, ◌&&◌, ◌⊎◌, inl, inr, not, if◌then◌else◌, zero, suc, Bool, true, false, Option, Some, None, List, [], ◌∷◌, ◌++◌, drop, refl, ap, ap₂, sym, subst, ◌∙◌, arith}, lemmas.Bool.Decides.nat_tests}, specs.List.{list_any, list_all}}
 use Rattle.tc_rules.{specs.{Prelude.{Run, Comp, Entry, Op, Target, Phase, Fault, Reply, add_new, comp_of, comps, created, exists, phase, done, is_done, is_killed, is_running, killed, holds, is_still, is_stuck, parks, waiting, waits_in_vain, all_exist, fault, answer, answer_unless, is_active, is_active_on, local_reply, plain_answer, is_quiet, keeps_phases, IsLegal, wake_op}, declared.awaited.Awaited.Awaited}, proofs.Lemmas.{Deciding.{equal_if, self_equal}, Going.last_on_it, Kept.list_all-same, Quiet.{Quiet, no_new_fault, quiet_wakes_nobody, same_active, same_phase}, Stuck.phase_running, Sound.plain_if}}
 use Rattle.tc_blocks.specs.{declared.line.Line.Line, Prelude.{entries_of, entry_in}}
 use Rattle.tc_serve.{specs.{Inside.{after_call, wakes_nobody, with_line, called, IsSettled}, Laws.AllServed, Protocol.{Played, moved, played_past, woken, woken_from}}, proofs.{Evident.{IsSound, all_legal, made_sound, no_entry, note_sound}, Changes.{all_served, also_served}}}
@@ -16,10 +16,6 @@ none_made _ = refl
 quiet : (r : Run) (op : Op) → Quiet (ended_call r op)
 quiet r op = record { ends = refl; kill = λ c. refl; halt = λ own c. refl; start = λ c. refl; run = λ b. refl; park = refl }
 
-any_ext : (f g : ℕ → Bool) (cs : List ℕ) → ((c : ℕ) → g c ≡ f c) → list_any g cs ≡ list_any f cs
-any_ext f g [] same = refl
-any_ext f g (c ∷ cs) same = rw (same c) (ap (λ (t : Bool). f c || t) (any_ext f g cs same))
-
 module _ (n : ℕ) (past : List Entry) (r : Run) (op : Op) (some : 0 < n) (legal : IsLegal n past) where
   same_comps : comps (ended_call r op ∷ past) ≡ comps past
   same_comps = ap (λ (o : Option Comp). add_new o (comps past)) (none_made op)
@@ -27,21 +23,24 @@ module _ (n : ℕ) (past : List Entry) (r : Run) (op : Op) (some : 0 < n) (legal
   same : (c : ℕ) → phase (ended_call r op ∷ past) c ≡ phase past c
   same c = same_phase n past (ended_call r op) c legal (quiet r op)
 
+  same_phases : phase (ended_call r op ∷ past) ≡ phase past
+  same_phases = λ k c. same_phase n past (ended_call r op) c legal (quiet r op) k
+
+  -- what is asked of the phases of all components but the first
+  of_all : (asks : (ℕ → Phase) → List ℕ → Bool) → asks (phase (ended_call r op ∷ past)) (drop 1 (comps (ended_call r op ∷ past))) ≡ asks (phase past) (drop 1 (comps past))
+  of_all asks = ap₂ (λ (f : ℕ → Phase) (cs : List ℕ). asks f (drop 1 cs)) same_phases same_comps
+
   same_done : (t : Target) → done (ended_call r op ∷ past) t ≡ done past t
   unfolding done
   same_done (Target.One c) = ap is_done (same c.0)
-  same_done Target.Any = ap (λ (cs : List ℕ). list_any (λ c. is_done (phase (ended_call r op ∷ past) c)) (drop 1 cs)) same_comps
-      ∙ any_ext (λ c. is_done (phase past c)) (λ c. is_done (phase (ended_call r op ∷ past) c)) (drop 1 (comps past)) (λ c. ap is_done (same c))
-  same_done Target.All = ap (λ (cs : List ℕ). list_all (λ c. not (is_running (phase (ended_call r op ∷ past) c))) (drop 1 cs)) same_comps
-      ∙ list_all-same (λ c. not (is_running (phase (ended_call r op ∷ past) c))) (λ c. not (is_running (phase past c))) (drop 1 (comps past)) (λ c. ap (λ (p : Phase). not (is_running p)) (same c))
+  same_done Target.Any = of_all (λ f. list_any (λ c. is_done (f c)))
+  same_done Target.All = of_all (λ f. list_all (λ c. not (is_running (f c))))
 
   same_killed : (t : Target) → killed (ended_call r op ∷ past) t ≡ killed past t
   unfolding killed
   same_killed (Target.One c) = ap is_killed (same c.0)
-  same_killed Target.Any = ap (λ (cs : List ℕ). list_any (λ c. is_killed (phase (ended_call r op ∷ past) c)) (drop 1 cs)) same_comps
-      ∙ any_ext (λ c. is_killed (phase past c)) (λ c. is_killed (phase (ended_call r op ∷ past) c)) (drop 1 (comps past)) (λ c. ap is_killed (same c))
-  same_killed Target.All = ap (λ (cs : List ℕ). list_all (λ c. is_killed (phase (ended_call r op ∷ past) c)) (drop 1 cs)) same_comps
-      ∙ list_all-same (λ c. is_killed (phase (ended_call r op ∷ past) c)) (λ c. is_killed (phase past c)) (drop 1 (comps past)) (λ c. ap is_killed (same c))
+  same_killed Target.Any = of_all (λ f. list_any (λ c. is_killed (f c)))
+  same_killed Target.All = of_all (λ f. list_all (λ c. is_killed (f c)))
 
   same_holds : (b : Awaited) → holds (ended_call r op ∷ past) b ≡ holds past b
   unfolding holds
