@@ -1,5 +1,5 @@
 -- Lines that come in pieces, and what is read and written of them, turn by turn.
-use Rattle.std.{proofs.{Common.{ℕ, ◌≡◌, ◌≢◌, ◌∙◌, ◌==◌, ◌||◌, ◌+◌, ◌-◌, ◌<◌, ◌≤◌, inl, inr, if◌then◌else◌, Bool, true, false, is_some, is_err, Option, Some, None, Result, Ok, Err, MatchResult, List, [], ◌∷◌, ◌++◌, codes, zero, suc, length, take, get_or, refl, ap, sym, subst, append_assoc, arith, ◌^◌, ◌↔◌, ◌⊎◌, IfErr}, KnownBytes.{Appends-trans, Consumes-kept, Consumes-trans}, Math.Seq.take-append-add, lemmas.List.{append-nil, length-append, take-append-le, take_more}}, specs.{Fmt.decimal, Io.KnownBytes.{IsAtEnd, Appends, Consumes, Keeps}, List.list_all, Result.{result_err, result_unwrap_or}, Option.option_map_or}}
+use Rattle.std.{proofs.{Common.{ℕ, ◌≡◌, ◌≢◌, ◌∙◌, ◌==◌, ◌||◌, ◌+◌, ◌-◌, ◌<◌, ◌≤◌, inl, inr, if◌then◌else◌, Bool, true, false, is_some, is_err, Option, Some, None, Result, Ok, Err, MatchResult, List, [], ◌∷◌, ◌++◌, codes, zero, suc, length, take, get_or, refl, ap, sym, subst, append_assoc, arith, ◌^◌, ◌↔◌, ◌⊎◌, IfErr, OnErr}, KnownBytes.{Appends-trans, Consumes-kept, Consumes-trans}, Math.Seq.take-append-add, lemmas.List.{append-nil, length-append, take-append-le, take_more}}, specs.{Fmt.decimal, Io.KnownBytes.{IsAtEnd, Appends, Consumes, Keeps}, List.list_all, Result.{result_err, result_unwrap_or}, Option.option_map_or}}
 use Rattle.tc_serve.{specs.{Inside.{AllEnded, Closes, Counts, Fails, Feeds, IsAtLine, IsBadLine, IsEnd, IsFed, Serves, StandsAs, StopsIn, TakesPiece, TellsRun, Tries, TriesLine, Hears, IsAt, IsOwn, IsTurn, IsTaken, end_told, IsNobodys}, Protocol.{Comes, IsOf, IsOrderOf, NoLf, Refuses, Sent, ServiceState, after_order, finished_state, seen, why_text}, Serve.{HasEnded, IsWhy, served, stopped, bytes_of, lines_messages, refused_line_text, worst_case, IsServiceEnd}, declared.{service.{ServeFault.ServeFault, Served.Served, Ending.Ending}, order.{Order.Order, TheConstants.LINE_BYTES, Refusal.Refusal}, server.Server.Server, serving.Serving.Serving}}, proofs.Changes.appended}
 use Rattle.tc_stream.specs.Prelude.{AppendsPrefix}
 use Rattle.tc_rules.specs.Prelude.{Run}
@@ -151,9 +151,9 @@ fed_line bytes v w x before out written before' told told' fed serves server lin
     }
 
 -- more bytes of a line
-pub fed_piece : (bytes piece : List ℕ) (v w : Serving) (before out before' told : List ℕ) → IsFed bytes v before out before' told → NoLf piece → w.line.items ≡ v.line.items ++ take (LINE_BYTES - length v.line.items) piece → w.server ≡ v.server → w.lines ≡ v.lines →
-    w.refused ≡ v.refused → IsFed (bytes ++ piece) w before out before' told
-fed_piece bytes piece v w before out before' told fed plain kept server lines refuses = record {
+pub fed_piece : (bytes piece : List ℕ) (v w : Serving) (before out before' told : List ℕ) → IsFed bytes v before out before' told → NoLf piece → w.line.items ≡ v.line.items ++ take (LINE_BYTES - length v.line.items) piece → w ≡ record v { line = w.line } →
+    IsFed (bytes ++ piece) w before out before' told
+fed_piece bytes piece v w before out before' told fed plain kept same = record {
   lines = fed.lines;
   stand = fed.stand;
   last = fed.last ++ piece;
@@ -163,10 +163,10 @@ fed_piece bytes piece v w before out before' told fed plain kept server lines re
   kept = kept ∙ seen_piece fed.last v.line.items piece fed.kept;
   counts = record {
     served = fed.counts.served;
-    stands = subst (λ (y : Server). StandsAs y fed.stand before out) (sym server) fed.counts.stands;
+    stands = subst (λ (y : Server). StandsAs y fed.stand before out) (sym (ap (λ (x : Serving). x.server) same)) fed.counts.stands;
     tells = fed.counts.tells;
-    many = lines ∙ fed.counts.many;
-    refused = refuses ∙ fed.counts.refused;
+    many = ap (λ (x : Serving). x.lines) same ∙ fed.counts.many;
+    refused = ap (λ (x : Serving). x.refused) same ∙ fed.counts.refused;
   };
 }
 
@@ -304,6 +304,11 @@ pub stops_last : (bytes before before' : List ℕ) (v : Serving) (out written to
 stops_last bytes before before' v out written told told' input f end fed some fails same same_told =
     stops_here bytes fed.last bytes v before out written before' told told' input f fed fed.parts
     (why_last f fed.last fed.lines fed.stand input end fed.all fed.last_is (some_seen fed.last v.line.items fed.kept some) (fails fed.last fed.lines fed.stand before before' (at_line bytes before out before' told v fed))) same same_told
+
+-- what ends the service so, if it ends with a fault
+pub ends_so : {A : Type 0} (r : Result A ServeFault) (P Q : ServeFault → Type 0) (B C : Type 0) → ((f : ServeFault) → P f → B → C → Q f) → IfErr r P → OnErr r B → OnErr r C → IfErr r Q
+ends_so (Ok x) P Q B C so is b c = tt
+ends_so (Err f) P Q B C so is b c = so f is b c
 
 -- the test case that is open is closed
 pub finishes : (bytes before before' : List ℕ) (v w : Serving) (out written told told' : List ℕ) (input : Option (List ℕ)) (r : Served) → IsAtEnd input → IsEnd bytes v before out before' told → Closes v w out written told told' → w.refused ≡ v.refused →

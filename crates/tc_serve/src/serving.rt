@@ -148,9 +148,7 @@ impl Serving {
     // Keeps what is looked at of more bytes of the line.
     fn keep(&mut self, bytes: &[u8]) -> Result<(), NoMemory>
         ensures kept { OnOk result (self.new.line.items ≡ self.old.line.items ++ take (LINE_BYTES - length self.old.line.items) bytes.now) }
-        ensures server { self.new.server ≡ self.old.server }
-        ensures lines { self.new.lines ≡ self.old.lines }
-        ensures refused { self.new.refused ≡ self.old.refused }
+        ensures same { self.new ≡ record self.old { line = self.new.line } }
     {
         let room = LINE_BYTES.saturating_sub(self.line.len());
         let count = room.min(bytes.len());
@@ -206,10 +204,7 @@ impl Serving {
         if self.line.is_empty() {
             return Ok(());
         }
-        match self.serve_line(false, texts) {
-            Ok(()) => Ok(()),
-            Err(fault) => Err(fault),
-        }
+        self.serve_line(false, texts)
     }
 
     // Closes the test case that is open, if one is, and reports that. If memory runs out, nothing is appended.
