@@ -1,7 +1,7 @@
 -- The test cases of a script, and which test cases of a campaign are chosen.
-use Rattle.std.specs.{Prelude.{ℕ, ◌≡◌, ◌↔◌, ◌+◌, ◌<◌, ◌==◌, ◌||◌, Bool, true, List, [], ◌∷◌, Option, Some, None, filter, if◌then◌else◌, length, Ok, Err, false, map}, List.{list_all, list_any}}
+use Rattle.std.specs.{Prelude.{ℕ, ◌≡◌, ◌+◌, ◌==◌, ◌||◌, Bool, true, List, [], ◌∷◌, Option, filter, if◌then◌else◌, length, Ok, Err, false, map}, List.{list_all, list_any}, Option.option_map_or}
 use Rattle.tc_exec.specs.declared.test_case.Case.{Case}
-use Rattle.tc_rules.specs.Prelude.{matches, IsShard, ShardView, has_place}
+use Rattle.tc_rules.specs.Prelude.{matches, ShardView, has_place}
 use Rattle.tc_command.specs.declared.task.Choice.{Choice}
 use Rattle.tc_reader.specs.Prelude.{CampaignView, Word, campaign}
 use Rattle.tc_step.specs.Prelude.{ScriptView}
@@ -16,15 +16,10 @@ abbrev pub placed_in_shard : {C : Type 0} → ShardView → ℕ → List C → L
 placed_in_shard s place [] = []
 placed_in_shard s place (c ∷ cs) = if has_place s place then c ∷ placed_in_shard s (place + 1) cs else placed_in_shard s (place + 1) cs
 
--- those of the shard; without a shard all of them
-abbrev pub in_shard : {C : Type 0} → Option ShardView → List C → List C
-in_shard None cs = cs
-in_shard (Some s) cs = placed_in_shard s 0 cs
-
 module _ {C : Type 0} (name_of : C → List ℕ) where
-  -- the shard of those whose names are asked for, in their order
+  -- those whose names are asked for, in their order, and of these the ones of the shard; without a shard all of them
   abbrev pub chosen : List (List ℕ) → Option ShardView → List C → List C
-  chosen only shard cs = in_shard shard (filter (λ c. is_asked only (name_of c)) cs)
+  chosen only shard cs = let asked = filter (λ c. is_asked only (name_of c)) cs in option_map_or (λ s. placed_in_shard s 0 asked) shard asked
 
   -- each pattern that is asked for matches the name of a test case
   abbrev pub have_names : List (List ℕ) → List C → Bool
@@ -33,11 +28,6 @@ module _ {C : Type 0} (name_of : C → List ℕ) where
 -- the name of a test case
 abbrev pub case_name : {B : Type 0} → Case B → List ℕ
 case_name c = c.name
-
--- of all shards of that many, one at least, exactly one has the test case at a place: the k-th
-abbrev pub ShardsAreAll : Type 0
-ShardsAreAll = (shards : ℕ) → 0 < shards → (place : ℕ) →
-    (k : ℕ) × (k < shards) × ((s : ShardView) → IsShard s → s.shards ≡ shards → (has_place s place ≡ true) ↔ (s.place ≡ k))
 
 -- a test case of a script: its name, and its behaviours by name
 abbrev pub CaseView : Type 0

@@ -1,5 +1,5 @@
 -- The page of a text.
-use Rattle.std.specs.{Prelude.{ℕ, ◌≡◌, ◌==◌, nat_lt, not, true, if◌then◌else◌, List, [], ◌∷◌, ◌++◌}, List.{flat_map, list_all}}
+use Rattle.std.specs.{Prelude.{ℕ, ◌==◌, nat_lt, if◌then◌else◌, List, [], ◌∷◌, ◌++◌}, List.flat_map}
 use Rattle.tc_answer.specs.declared.{head.TheConstants.HEAD, tail.TheConstants.TAIL}
 
 -- how a page holds a text: `<`, which is 60, as the character U+2039, and any other byte as it is
@@ -13,12 +13,3 @@ page_of text = HEAD.now ++ (held text ++ TAIL.now)
 -- the text that a page shows: the first byte of U+2039 is shown as `<`, and its others as nothing
 abbrev pub shown : List ℕ → List ℕ
 shown page = flat_map (λ b. if b == 226 then 60 ∷ [] else if nat_lt b 128 then b ∷ [] else []) page
-
--- what holds of a text in a page
-pub record HoldsTexts : Type 0 where
-  -- no tag begins in it
-  pub no_tag : (text : List ℕ) → list_all (λ b. not (b == 60)) (held text) ≡ true
-  -- a text of ASCII is shown as it was
-  pub shown_again : (text : List ℕ) → list_all (λ b. nat_lt b 128) text ≡ true → shown (held text) ≡ text
-  -- a text without `<` is held as it is
-  pub as_it_is : (text : List ℕ) → list_all (λ b. not (b == 60)) text ≡ true → held text ≡ text

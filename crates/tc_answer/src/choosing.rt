@@ -1,5 +1,5 @@
 //! The test cases of a script, and which test cases of a campaign are chosen.
-ghost use Rattle.std.specs.Prelude.{◌≡◌, ◌++◌, IfOk, IfErr, OnOk, true};
+ghost use Rattle.std.specs.Prelude.{◌≡◌, IfOk, IfErr, true};
 ghost use Rattle.std.specs.List.{AllZip, list_any};
 ghost use Rattle.tc_rules.specs.Prelude.{matches};
 ghost use Rattle.tc_answer.specs.{Choosing.{RefusesChoice, case_name, chosen, have_names, is_asked as spec_asked, placed_in_shard}, Inside.{AreReady, IsCaseOf, RefusesNames, named as spec_named}};
@@ -35,24 +35,7 @@ fn named<B: Drop>(mut cases: Vec<Case<B>>, only: &[Pattern]) -> Vec<Case<B>>
     cases
 }
 
-// Takes those of the shard.
-fn take_sharded<B: Drop>(
-    cases: Vec<Case<B>>,
-    shard: Shard,
-    taken: &mut Vec<Case<B>>,
-) -> Result<(), NoMemory>
-    ensures { OnOk result (taken.new.items ≡ taken.old.items ++ placed_in_shard shard 0 cases.items) }
-{
-    let mut place: usize = 0;
-    for case in cases {
-        if shard.has(place) {
-            taken.push(case)?;
-        }
-        place = place.checked_add(1).ok_or(NoMemory)?;
-    }
-    Ok(())
-}
-
+// Those of the shard.
 fn sharded<B: Drop>(
     alloc: Global,
     cases: Vec<Case<B>>,
@@ -61,7 +44,13 @@ fn sharded<B: Drop>(
     ensures { IfOk result (λ r. r.items ≡ placed_in_shard shard 0 cases.items) }
 {
     let mut taken = Vec::new(alloc);
-    take_sharded(cases, shard, &mut taken)?;
+    let mut place: usize = 0;
+    for case in cases {
+        if shard.has(place) {
+            taken.push(case)?;
+        }
+        place = place.checked_add(1).ok_or(NoMemory)?;
+    }
     Ok(taken)
 }
 

@@ -4,7 +4,7 @@ ghost use Rattle.std.specs.Io.{StartsWith};
 ghost use Rattle.tc_rules.specs.Prelude.{name_of, Verdict as AnyVerdict};
 ghost use Rattle.tc_answer.specs.{Fault.run_fault_line, Fault.run_fault_text, Fault.said, Inside.of_input as spec_input, Inside.of_text, Inside.place_text, declared.fault.RunFault.RunFault};
 
-use std::alloc::{AllocError, AllocFailed, Global};
+use std::alloc::{AllocError, Global};
 use std::fmt;
 use tc_command::WordFault;
 use tc_entry::NoMemory;
@@ -66,14 +66,6 @@ impl From<AllocError> for RunFault {
     ghost from_gives = { λ _ r. r ≡ RunFault.NoMemory };
 
     fn from(_: AllocError) -> RunFault {
-        RunFault::NoMemory
-    }
-}
-
-impl<T: Drop> From<AllocFailed<T>> for RunFault {
-    ghost from_gives = { λ _ r. r ≡ RunFault.NoMemory };
-
-    fn from(_: AllocFailed<T>) -> RunFault {
         RunFault::NoMemory
     }
 }

@@ -18,10 +18,7 @@ pub fn read_text<R: Read>(alloc: Global, reader: &mut R, limit: usize) -> Result
     ensures all { IfOk result (λ v. IfSome (R.remaining reader.old) (λ given. v.items ≡ given)) }
     ensures unread { IfErr result (IsUnread limit (R.remaining reader.old)) }
 {
-    match read_input(alloc, reader, limit) {
-        Ok(text) => Ok(text),
-        Err(fault) => Err(of_input(fault)),
-    }
+    read_input(alloc, reader, limit).map_err(of_input)
 }
 
 /// The campaign that the text spells.

@@ -1,27 +1,11 @@
 //! The page that shows histories in a browser: one file of HTML, which holds their text.
 ghost use Rattle.std.specs.Prelude.{◌≡◌, ◌++◌, IfOk, OnOk};
-ghost use Rattle.tc_answer.specs.{Page.held, Page.page_of, declared.head.TheConstants.HEAD, declared.tail.TheConstants.TAIL};
+ghost use Rattle.tc_answer.specs.{Page.held, Page.page_of};
 
 use crate::head::HEAD;
 use crate::tail::TAIL;
 use std::alloc::Global;
 use tc_entry::NoMemory;
-
-// Appends what is before the text.
-fn append_head(page: &mut Vec<u8>) -> Result<(), NoMemory>
-    ensures { OnOk result (page.new.items ≡ page.old.items ++ HEAD.now) }
-{
-    page.extend_from_slice(HEAD)?;
-    Ok(())
-}
-
-// Appends what follows the text.
-fn append_tail(page: &mut Vec<u8>) -> Result<(), NoMemory>
-    ensures { OnOk result (page.new.items ≡ page.old.items ++ TAIL.now) }
-{
-    page.extend_from_slice(TAIL)?;
-    Ok(())
-}
 
 // Appends the text, with the character U+2039 for each `<`.
 fn append_held(page: &mut Vec<u8>, text: &[u8]) -> Result<(), NoMemory>
@@ -42,8 +26,8 @@ pub fn html_page(alloc: Global, text: &[u8]) -> Result<Vec<u8>, NoMemory>
     ensures { IfOk result (λ v. v.items ≡ page_of text.now) }
 {
     let mut page = Vec::new(alloc);
-    append_head(&mut page)?;
+    page.extend_from_slice(HEAD)?;
     append_held(&mut page, text)?;
-    append_tail(&mut page)?;
+    page.extend_from_slice(TAIL)?;
     Ok(page)
 }

@@ -1,12 +1,12 @@
 -- The chosen ones of the test cases that were made of a script are those of the chosen ones of the script, and all
 -- shards together have each. The number of a line before its words.
-use Rattle.std.{proofs.{Common.{ℕ, ◌≡◌, ◌∙◌, ◌+◌, ◌&&◌, ◌||◌, Bool, true, false, List, [], ◌∷◌, Option, Some, None, Ok, All, ap, ap₂, refl, subst, sym, true≢false, ◌++◌, codes, append_assoc, ◌%◌}, lemmas.{Bool.{eq-eqb, eqb-true}, List.Elements.{All-cons, All-filter, All-head, All-tail}}, Math.Nat.mod-lt}, specs.{Fmt.decimal, List.{AllZip, list_any}, Prelude.{filter, if◌then◌else◌, map}}}
-use Rattle.tc_rules.specs.Prelude.{matches, ShardView, has_place}
+use Rattle.std.{proofs.{Common.{ℕ, ◌≡◌, ◌∙◌, ◌+◌, ◌<◌, ◌↔◌, ◌&&◌, ◌||◌, Bool, true, false, List, [], ◌∷◌, Option, Some, None, Ok, All, ap, ap₂, refl, subst, sym, true≢false, ◌++◌, codes, append_assoc, ◌%◌}, lemmas.{Bool.{eq-eqb, eqb-true}, List.Elements.{All-cons, All-filter, All-head, All-tail}}, Math.Nat.mod-lt}, specs.{Fmt.decimal, List.{AllZip, list_any}, Prelude.{filter, if◌then◌else◌, map}}}
+use Rattle.tc_rules.specs.Prelude.{matches, IsShard, ShardView, has_place}
 use Rattle.tc_exec.specs.declared.test_case.Case.{Case}
 use Rattle.tc_step.specs.Prelude.{ScriptView}
 use Rattle.tc_command.specs.declared.task.Choice.{Choice}
 use Rattle.tc_reader.specs.Prelude.{CampaignView, campaign, IsCase, Word, among, has_twice, is_text}
-use Rattle.tc_answer.specs.{Choosing.{CaseView, RefusesChoice, ShardsAreAll, case_name, chosen, have_names, is_asked, placed_in_shard}, Inside.{AreReady, AreReadyAs, IsCaseOf, RefusesNames, case_parts, named, place_text, script_name}, declared.fault.RunFault.RunFault}
+use Rattle.tc_answer.specs.{Choosing.{CaseView, RefusesChoice, case_name, chosen, have_names, is_asked, placed_in_shard}, Inside.{AreReady, AreReadyAs, IsCaseOf, RefusesNames, case_parts, named, place_text, script_name}, declared.fault.RunFault.RunFault}
 
 module _ {C : Type 0} (P : C → Type 0) where
   all_with : (b : Bool) (c : C) (cs : List C) → P c → All P cs → All P (if b then c ∷ cs else cs)
@@ -193,7 +193,7 @@ at_place line words =
 place_of : (s : ShardView) (place : ℕ) → has_place s place ≡ true → place % s.shards ≡ s.place
 place_of s place has = eqb-true (place % s.shards) s.place has
 
-pub shards_are_all : ShardsAreAll
+pub shards_are_all : (shards : ℕ) → 0 < shards → (place : ℕ) → (k : ℕ) × (k < shards) × ((s : ShardView) → IsShard s → s.shards ≡ shards → (has_place s place ≡ true) ↔ (s.place ≡ k))
 shards_are_all shards some place = (
   place % shards,
   mod-lt place some,

@@ -6,6 +6,6 @@ pub returns : goal.returns
 unfolding page_of
 returns c =
     let text = c.args.text.now in
-    let first = c.in_ok-append_head.ensures ∙ ap (λ l. l ++ HEAD.now) c.new-page.ensures.items in
+    let first = c.in_ok-extend_from_slice.ensures.items ∙ ap (λ l. l ++ HEAD.now) c.new-page.ensures.items in
     let both = c.in_ok-append_held.ensures ∙ ap (λ l. l ++ held text) first in
-    c.in_ok-append_tail.ensures ∙ (ap (λ l. l ++ TAIL.now) both ∙ append_assoc HEAD.now (held text) TAIL.now)
+    c.in_ok-extend_from_slice-2.ensures.items ∙ (ap (λ l. l ++ TAIL.now) both ∙ append_assoc HEAD.now (held text) TAIL.now)
