@@ -3,7 +3,7 @@ use Rattle.std.specs.{Prelude.{ℕ, ◌≡◌, ◌+◌, ◌-◌, ◌<◌, ◌≤
 use Rattle.tc_stream.specs.Prelude.{AppendsPrefix}
 use Rattle.tc_rules.specs.{Prelude.{Run, IsBehaviours, Kept, StandsFor, waiting, Entry, Op, Reply, entry_made, Verdict, is_over, overall, answer, wake_op}, declared.awaited.Awaited.Awaited}
 use Rattle.tc_blocks.specs.{declared.{line.Line.Line, met.MetRuns.MetRuns}, Prelude.{entries_of, AreMet}}
-use Rattle.tc_serve.specs.{Protocol.{AreServed, IsOf, IsOrderOf, NoLf, OpensNone, Played, Refuses, Sent, ServiceState, after_order, finished_state, moved, order_text, played_past, refused, seen, woken_from}, Serve.{HasEnded, bytes_of, lines_messages, stand_text, worst_case}, declared.{service.{ServeFault.ServeFault, Served.Served}, open_case.OpenCase.OpenCase, order.{Order.Order, Refusal.Refusal}, server.Server.Server, serving.Serving.Serving}}
+use Rattle.tc_serve.specs.{Protocol.{AreServed, IsOf, IsOrderOf, NoLf, OpensNone, Played, Refuses, Sent, ServiceState, after_order, finished_state, moved, played_past, refused, seen, woken_from}, Serve.{HasEnded, bytes_of, lines_messages, stand_text, worst_case}, declared.{service.{ServeFault.ServeFault, Served.Served}, open_case.OpenCase.OpenCase, order.{Order.Order, Refusal.Refusal}, server.Server.Server, serving.Serving.Serving}}
 
 -- the verdict that a test case counts as: error if it is not over
 abbrev pub counted : Played → Verdict
@@ -30,10 +30,6 @@ abbrev pub IsOther : Order → Type 0
 IsOther (Order.Move caller op) = ⊥
 IsOther (Order.Remark run sentence) = ⊥
 IsOther _ = Unit {0}
-
--- the line that opens a test case: its name, and how many behaviours it has
-abbrev pub case_text : List ℕ → ℕ → List ℕ
-case_text name n = order_text (Order.Case name n)
 
 -- this is why a line that is neither a move nor a remark asks for nothing
 abbrev pub IsWhyOther : Refusal → List ℕ → Type 0
@@ -166,10 +162,6 @@ TellsRun line why false v w out written = (s : ServiceState) (before : List ℕ)
 abbrev pub AllEnded : List Sent → Type 0
 AllEnded lines = list_all (λ l. l.ended) lines ≡ true
 
--- what goes to standard error in all, if the input ends after these lines in this state
-abbrev pub told_at_end : List Sent → ServiceState → List ℕ
-told_at_end lines s = lines_messages lines ++ end_told (is_some s.current)
-
 -- these lines were served, which are counted; what was written before and this is their text, and so it is with reports
 pub record Counts (v : Serving) (lines : List Sent) (s : ServiceState) (before out before' told : List ℕ) : Type 0 where
   pub served : AreServed lines s
@@ -199,9 +191,8 @@ IsOwn _ = Unit {0}
 abbrev pub IsBadLine : ServeFault → Bool → List ℕ → List Sent → ServiceState → Type 0
 IsBadLine (ServeFault.Line n why) ended line lines s = (n ≡ length lines + 1) × (is_some s.current ≡ false) × Refuses why ended (seen line) s
 IsBadLine ServeFault.TooLong ended line lines s = 2 ^ 64 - 1 ≤ length lines
-IsBadLine ServeFault.Read ended line lines s = ⊥
-IsBadLine ServeFault.Write ended line lines s = ⊥
 IsBadLine ServeFault.NoMemory ended line lines s = Unit {0}
+IsBadLine _ ended line lines s = ⊥
 
 -- the service is at this line, which has ended or is the last
 pub record IsAtLine (line : List ℕ) (lines : List Sent) (stand : ServiceState) (v : Serving) (before out before' told : List ℕ) : Type 0 where
@@ -222,7 +213,7 @@ Fails ended v out told f = (line : List ℕ) (lines : List Sent) (s : ServiceSta
 -- the test case that is open is closed, if one is, and that is reported
 abbrev pub Closes : Serving → Serving → List ℕ → List ℕ → List ℕ → List ℕ → Type 0
 Closes v w out written told told' = (lines : List Sent) (s : ServiceState) (before before' : List ℕ) → Counts v lines s before out before' told
-    → StandsAs w.server (finished_state s) before written × (before' ++ told' ≡ told_at_end lines s)
+    → StandsAs w.server (finished_state s) before written × (before' ++ told' ≡ lines_messages lines ++ end_told (is_some s.current))
 
 -- these bytes are taken
 abbrev pub Feeds : List ℕ → Serving → Serving → List ℕ → List ℕ → List ℕ → List ℕ → Type 0

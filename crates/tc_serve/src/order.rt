@@ -2,7 +2,7 @@
 ghost use Rattle.std.specs.Prelude.{◌≡◌, ◌<◌, ◌^◌, ℕ, List, false, true, Ok, Some, None, IfSome, IfOk, IfErr, MatchOption};
 ghost use Rattle.tc_rules.specs.Prelude.{IsName};
 ghost use Rattle.tc_blocks.specs.Prelude.{naming_text, said_text};
-ghost use Rattle.tc_serve.specs.{Inside.IsOther, Inside.IsWhyOther, Inside.case_text, Protocol.IsOrder, Protocol.IsWhyNothing, Protocol.order_text, Protocol.why_text};
+ghost use Rattle.tc_serve.specs.{Inside.IsOther, Inside.IsWhyOther, Protocol.IsOrder, Protocol.IsWhyNothing, Protocol.order_text, Protocol.why_text};
 
 use std::alloc::Global;
 use tc_blocks::Sentence;
@@ -80,9 +80,10 @@ impl Refusal {
 
 // The test case that the line opens, and its number of behaviours, whatever it is.
 fn read_case(text: &[u8]) -> Option<(Name, u32)>
-    ensures spelled { IfSome result (λ r. text.now ≡ case_text r.0 r.1) }
+    ensures spelled { IfSome result (λ r. text.now ≡ order_text (Order.Case r.0 r.1)) }
     ensures fits { IfSome result (λ r. IsName r.0 × (r.1 < 2 ^ 32)) }
-    ensures only { (name : List ℕ) (n : ℕ) → IsName name → n < 2 ^ 32 → text.now ≡ case_text name n → result ≡ Some (name, n) }
+    ensures only { (name : List ℕ) (n : ℕ) → IsName name → n < 2 ^ 32 → text.now ≡ order_text (Order.Case name n)
+        → result ≡ Some (name, n) }
 {
     let rest = after(text, b"case ")?;
     let (name, rest) = take_name(rest)?;
