@@ -1,5 +1,6 @@
 //! What one entry is to the merge, the verdict entries at the head of a log, and those replied Ended.
 ghost use Rattle.std.specs.Prelude.{◌≡◌, ◌++◌, OnOk, filter};
+ghost use Rattle.tc_rules.specs.Prelude.{started};
 ghost use Rattle.tc_rules.specs.Merge as rules;
 ghost use Rattle.tc_book.specs.Inside.Merging.{AreAfterOther};
 
@@ -28,7 +29,7 @@ fn is_late(entry: &Entry) -> bool
 
 /// The run that a Start replied Ok starts.
 pub(crate) fn started(entry: &Entry) -> Option<Run>
-    ensures { result ≡ rules.started entry.now }
+    ensures { result ≡ started entry.now }
 {
     match (&entry.op, entry.reply) {
         (Op::Start { run, .. }, Reply::Ok) => Some(*run),

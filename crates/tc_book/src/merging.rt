@@ -1,6 +1,6 @@
 //! The merge of a history with the logs of its runs.
 ghost use Rattle.std.specs.Prelude.{◌≡◌, ◌++◌, ℕ, IfOk, List, OnOk, filter, length};
-ghost use Rattle.tc_rules.specs.Prelude.{part};
+ghost use Rattle.tc_rules.specs.Prelude.{part, started};
 ghost use Rattle.tc_rules.specs.Merge as rules;
 ghost use Rattle.tc_book.specs.{Inside.Merging.head_at_start, Inside.Merging.placed, OneCase.AreOfOneCase, Inside.Merging.Has};
 
@@ -13,7 +13,7 @@ use tc_verdict::NoMemory;
 
 /// Adds the verdict entries at the head of the log of a run that the entry starts.
 fn add_head_at_start(all: &mut Vec<Entry>, logs: &[&[Entry]], entry: &Entry) -> Result<(), NoMemory>
-    ensures { (log : _) → Has logs.now log → OnOk result (all.new.items ≡ all.old.items ++ head_at_start log (rules.started entry.now)) }
+    ensures { (log : _) → Has logs.now log → OnOk result (all.new.items ≡ all.old.items ++ head_at_start log (started entry.now)) }
 {
     match started(entry) {
         Some(run) => add_head(all, at_run(logs, run)),
