@@ -154,17 +154,6 @@ fn ending_without_room<B: Callable>(cases: Vec<Case<B>>) -> CampaignEnd
     }
 }
 
-// The results of a campaign of which no test case is run because there is no room.
-fn unrun<B: Callable>(alloc: Global, cases: Vec<Case<B>>) -> Results
-    ensures none { result.finished ≡ [] }
-    ensures ending { IsUnrun (map outline_of cases.items) result.ending }
-{
-    Results {
-        finished: Sequence::new(Vec::new(alloc)),
-        ending: ending_without_room(cases),
-    }
-}
-
 /// The results of a campaign that has no room for its reports: none of its test cases is run, and it is aborted at the
 /// first of them, if there is one.
 pub fn without_room<B: Callable>(alloc: Global, cases: Vec<Case<B>>) -> Results
@@ -172,7 +161,10 @@ pub fn without_room<B: Callable>(alloc: Global, cases: Vec<Case<B>>) -> Results
     ensures run { (stop_on : Option AnyVerdict) (threads : ℕ)
         → IsRunTo outline_of (IsCalled B.outcome) cases.items stop_on threads (AreBack B.outcome) result.finished result.ending }
 {
-    unrun(alloc, cases)
+    Results {
+        finished: Sequence::new(Vec::new(alloc)),
+        ending: ending_without_room(cases),
+    }
 }
 
 // Runs the test cases, and keeps all of them: there is room.
