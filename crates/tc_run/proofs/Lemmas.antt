@@ -12,7 +12,7 @@ use Rattle.tc_campaign.specs.Prelude.{AreBack, Outline, HasNames, outline_of, Ar
 use Rattle.tc_campaign.specs.Inside.{IsReported}
 use Rattle.tc_command.specs.declared.task.RunOptions.{RunOptions}
 use Rattle.tc_answer.specs.{Prelude.{run_fault_line, IsPrintedRefusal, Streams, CaseView, scripts_of}, Inside.{IsCaseOf, names_of}, declared.outcome.Outcome.Outcome}
-use Rattle.tc_run.specs.{Inside.worker_limit, Output.{live_form, of_output, results_in_form}, Run.{AreScriptsBack, IsLeft, IsRun, IsScripted, IsUnwrittenRun, RunsCases, TellsRun, case_names, script_outline}}
+use Rattle.tc_run.specs.{Inside.worker_limit, Output.{live_form, of_output, results_in_form}, Run.{AreScriptsBack, IsLeft, IsRun, IsScripted, IsUnwrittenRun, RunsCases, case_names, script_outline}}
 
 count : (c : CaseView) (k : Case ScriptView) → IsCaseOf c k → vec_len k.jobs ≡ length c.1
 count c k is = omega (arith, ap length is.jobs, length-map c.1 (λ b. b.1))
@@ -121,7 +121,10 @@ module _ (o : RunOptions) (Are : List CaseView → Type 0) (cs : List CaseView) 
       times = run.times;
       timed = run.timed;
       written = subst (λ ns. Appends streams.before streams.after (results_in_form o.form run.times ns run.results)) (same_names cs ks each) run.written;
-      told = subst (λ ns. TellsRun o.progress (o.failures, ns) run.results streams.untold streams.told outcome.told) (same_names cs ks each) run.told;
+      between = run.between;
+      telling = run.telling;
+      cases_told = subst (λ ns. IsToldBy o.progress (o.failures, ns) streams.untold run.between run.results.finished run.telling) (same_names cs ks each) run.cases_told;
+      line_told = run.line_told;
     });
   }
 

@@ -8,7 +8,7 @@ use Rattle.tc_report.{specs.{Inside.form_text, declared.{fault.OutFault.OutFault
 use Rattle.tc_answer.{specs.{Prelude.{case_name, Streams, IsTold}, declared.{fault.RunFault.RunFault, outcome.Outcome.Outcome}}, proofs.Lemmas.Giving.keeps_same}
 use Rattle.tc_campaign.{specs.{Prelude.{AreBack, outline_of, AreFinished, IsCalled, IsRunTo}, Inside.IsUnrun}, proofs.Lemmas.Keeping.{none_finished, unrun_run}}
 use Rattle.tc_command.specs.declared.task.{Form.Form, RunOptions.RunOptions}
-use Rattle.tc_run.specs.{Inside.{AreGiven, first_fault, worker_limit}, Output.{AreTimes, live_form, results_in_form}, Run.{IsLeft, IsRun, IsUnwrittenRun, case_names, results_text}}
+use Rattle.tc_run.specs.{Inside.{AreGiven, first_fault, worker_limit}, Output.{AreTimes, live_form, results_in_form}, Run.{IsLeft, IsRun, IsUnwrittenRun, case_names}}
 
 -- times of which no clock said one: as many as test cases, if they are asked for
 untimed : (asked : Bool) (n : ℕ) → (times : Times) × AreTimes asked n times
@@ -59,7 +59,7 @@ module _ {B : Type 0} (outcome : B → PassState → Back → Type 0) (cases : L
   pub whole_done : (streams : Streams) (between : Option (List ℕ)) (times : Times) (r : Results) → AreTimes options.times (length r.finished) times → (telling : Result (Unit {0}) OutFault) (ended : Outcome)
       → IsRunTo outline_of (IsCalled outcome) cases options.stop_on worker_limit (AreBack outcome) r.finished r.ending
       → IsToldBy options.progress (options.failures, case_names outline_of cases) streams.untold between r.finished telling
-      → ended.status ≡ results_status r → Appends streams.before streams.after (results_text outline_of cases options times r)
+      → ended.status ≡ results_status r → Appends streams.before streams.after (results_in_form options.form times (case_names outline_of cases) r)
       → EndsTold between streams.told r.ending telling ended.told → IsRun outline_of (IsCalled outcome) (AreBack outcome) cases options streams ended
   whole_done streams between times r timed telling ended run told status written line = record {
     results = r;
@@ -68,7 +68,10 @@ module _ {B : Type 0} (outcome : B → PassState → Back → Type 0) (cases : L
     right = run;
     status = status;
     written = written;
-    told = record { between = between; telling = telling; cases_told = told; line = line.0; line_told = line.1; first = line.2 };
+    between = between;
+    telling = telling;
+    cases_told = told;
+    line_told = line;
   }
 
   -- the results of a run were not written whole
@@ -76,7 +79,7 @@ module _ {B : Type 0} (outcome : B → PassState → Back → Type 0) (cases : L
       → IsErrAnd answer (λ f. f ≡ fault) → live_form options.live options.form ≡ None
       → IsRunTo outline_of (IsCalled outcome) cases options.stop_on worker_limit (AreBack outcome) r.finished r.ending
       → IsToldBy options.progress (options.failures, case_names outline_of cases) streams.untold streams.told r.finished telling
-      → LeavesPrefix streams.before streams.after (results_text outline_of cases options times r) fault
+      → LeavesPrefix streams.before streams.after (results_in_form options.form times (case_names outline_of cases) r) fault
       → IfErr answer (IsUnwrittenRun outline_of (IsCalled outcome) (AreBack outcome) cases options streams)
   whole_left streams times r timed telling fault (Ok ended) what is run told left = absurd what
   whole_left streams times r timed telling fault (Err f) what is run told left = record {
@@ -84,7 +87,7 @@ module _ {B : Type 0} (outcome : B → PassState → Back → Type 0) (cases : L
     times = times;
     timed = timed;
     left = subst (λ live. IsLeft outline_of (IsCalled outcome) (AreBack outcome) cases options live streams times r f) (sym is)
-        (run, subst (LeavesPrefix streams.before streams.after (results_text outline_of cases options times r)) (sym what) left);
+        (run, subst (LeavesPrefix streams.before streams.after (results_in_form options.form times (case_names outline_of cases) r)) (sym what) left);
     told = (telling, told);
   }
 

@@ -1,5 +1,5 @@
 -- The run of a campaign, what is written of it, and what the reports of its test cases say of their scripts.
-use Rattle.std.specs.{Prelude.{ℕ, ◌≡◌, Bool, List, Option, Some, None, Result, map, ◌⊎◌, length}, Io.KnownBytes.Appends, Result.{result_and, result_map_both}}
+use Rattle.std.specs.{Prelude.{ℕ, ◌≡◌, List, Option, Some, None, Result, map, ◌⊎◌, length}, Io.KnownBytes.Appends, Result.{result_and, result_map_both}}
 use Rattle.tc_stream.specs.Prelude.{AppendsPrefix}
 use Rattle.tc_campaign.specs.Prelude.{Outline, AreFinished, IsRunTo}
 use Rattle.tc_report.specs.{declared.{fault.OutFault.OutFault, live.LiveForm.LiveForm, results.{Finished.Finished, Results.Results}, stopwatch.Times.Times}, Prelude.{abort_text, LeavesPrefix, IsToldBy, results_status}}
@@ -11,23 +11,9 @@ use Rattle.tc_script.specs.Prelude.{Acts, MakesItsCalls}
 use Rattle.tc_course.specs.Prelude.{IsWitness}
 use Rattle.tc_run.specs.Output.{AreTimes, of_output, live_form, results_in_form}
 
--- by this answer, which has the first fault, a run has printed what is due of its test cases as they finish, and after it the
--- line for a campaign that was aborted
-pub record TellsRun (progress : Bool) (shown : Bool × List (List ℕ)) (r : Results) (untold told : Option (List ℕ)) (answer : Result (Unit {0}) RunFault) : Type 0 where
-  pub between : Option (List ℕ)
-  pub telling : Result (Unit {0}) OutFault
-  pub cases_told : IsToldBy progress shown untold between r.finished telling
-  pub line : Result (Unit {0}) RunFault
-  pub line_told : IsTold between told (abort_text r.ending) line
-  pub first : answer ≡ result_and (result_map_both (λ x. x) of_output telling) line
-
 -- the names of these cases, in their order
 abbrev pub case_names : {C : Type 0} → (C → Outline) → List C → List (List ℕ)
 case_names outline cases = map (λ c. (outline c).name) cases
-
--- the text of the results of these cases, in the form asked for, with these times
-abbrev pub results_text : {C : Type 0} → (C → Outline) → List C → RunOptions → Times → Results → List ℕ
-results_text outline cases options times r = results_in_form options.form times (case_names outline cases) r
 
 module _ {C : Type 0} (outline : C → Outline) (called : C → Finished → Type 0) (back : C → Type 0) (cases : List C) (options : RunOptions) where
   -- these cases were run under these options, and the results were given
@@ -39,18 +25,22 @@ module _ {C : Type 0} (outline : C → Outline) (called : C → Finished → Typ
     -- their text was written in the form asked for, with times if these are asked for
     pub times : Times
     pub timed : AreTimes options.times (length results.finished) times
-    pub written : Appends streams.before streams.after (results_text outline cases options times results)
-    -- what is due on standard error was printed, as the outcome says
-    pub told : TellsRun options.progress (options.failures, case_names outline cases) results streams.untold streams.told outcome.told
+    pub written : Appends streams.before streams.after (results_in_form options.form times (case_names outline cases) results)
+    -- what is due as they finish was printed, and then the line of an aborted campaign; the outcome has the first fault
+    pub between : Option (List ℕ)
+    pub telling : Result (Unit {0}) OutFault
+    pub cases_told : IsToldBy options.progress (options.failures, case_names outline cases) streams.untold between results.finished telling
+    pub line_told : (line : Result (Unit {0}) RunFault) × IsTold between streams.told (abort_text results.ending) line
+        × (outcome.told ≡ result_and (result_map_both (λ x. x) of_output telling) line)
 
   -- by this fault the text of the results was not written whole: at the end, or as the test cases finished. Then a
   -- prefix of it is out, and the fault may have ended the campaign.
   abbrev pub IsLeft : Option LiveForm → Streams → Times → Results → OutFault → Type 0
   IsLeft None s times r fault =
       IsRunTo outline called cases options.stop_on BEHAVIOURS back r.finished r.ending
-      × LeavesPrefix s.before s.after (results_text outline cases options times r) fault
+      × LeavesPrefix s.before s.after (results_in_form options.form times (case_names outline cases) r) fault
   IsLeft (Some form) s times r fault =
-      AreFinished outline called cases options.stop_on BEHAVIOURS r.finished × AppendsPrefix s.before s.after (results_text outline cases options times r)
+      AreFinished outline called cases options.stop_on BEHAVIOURS r.finished × AppendsPrefix s.before s.after (results_in_form options.form times (case_names outline cases) r)
 
   -- these cases were run under these options, and the text of the results was not written whole; what is due of them was
   -- printed, or not all of it
