@@ -2,10 +2,10 @@
 use Rattle.std.proofs.{Common.{ℕ, ◌≡◌, ◌∙◌, ◌+◌, ◌<◌, List, [], ◌∷◌, ◌++◌, length, map, take, get_or, ap, sym}, lemmas.List.{map-append, take_more}}
 use Rattle.tc_rules.specs.Prelude.{Verdict, worse, worst}
 use Rattle.tc_verdict.proofs.Lemmas.Order.{worst-more}
-use Rattle.tc_report.specs.{Status.{counted_as, worst_of}, Summary.case_summary, declared.{results.Finished.Finished, summary.Summary.Summary}}
+use Rattle.tc_report.specs.{Status.{ended, worst_of}, Summary.case_summary, declared.{results.Finished.Finished, summary.Summary.Summary}}
 
 abbrev counted : Summary → Verdict
-counted s = counted_as s.ending
+counted s = (ended s.ending).1
 
 counted_more : (ss : List Summary) (s : Summary) → worst_of (ss ++ s ∷ []) ≡ worse (worst_of ss) (counted s)
 counted_more ss s = ap worst (map-append counted ss (s ∷ [])) ∙ worst-more (map counted ss) (counted s)

@@ -2,7 +2,7 @@
 use Rattle.std.{proofs.{Common.{ℕ, ◌≡◌, ◌<◌, ◌≤◌, true, false, List, [], ◌∷◌, ◌++◌, map, ap, refl, arith, length, slice_index_or}, lemmas.{Bool.Decides.nat_tests, Grind.get_or_default_zero, List.{Elements.{All-cons, All-head, All-nil, All-tail}, Folds.list_any_none, append-nil}}}, specs.{Fmt.{IsBoundedDecimal, decimal}, List.{All, join_with_byte, list_any}}}
 use Rattle.csv.specs.Writing.{default_writer, needs_byte, field_text, fields_text, row_text, is_blank}
 use Rattle.tc_rules.specs.Prelude.{Verdict, name_of, is_name_byte, IsName}
-use Rattle.tc_report.specs.{Csv.end_word, Inside.{counts_of, csv_line}, declared.{results.CaseEnd.CaseEnd, summary.Summary.Summary}}
+use Rattle.tc_report.specs.{Inside.{counts_of, csv_line}, Status.ended, declared.{results.CaseEnd.CaseEnd, summary.Summary.Summary}}
 
 -- no byte of the field calls for quotes
 abbrev pub IsUnquoted : List ℕ → Type 0
@@ -32,7 +32,7 @@ verdict-unquoted Verdict.Inconc = refl
 verdict-unquoted Verdict.Fail = refl
 verdict-unquoted Verdict.Error = refl
 
-end-unquoted : (ending : CaseEnd) → IsUnquoted (end_word ending)
+end-unquoted : (ending : CaseEnd) → IsUnquoted (ended ending).0
 end-unquoted (CaseEnd.Over v) = verdict-unquoted v
 end-unquoted CaseEnd.Unfinished = refl
 end-unquoted (CaseEnd.Aborted why) = refl
@@ -46,11 +46,11 @@ counts-unquoted (n ∷ ns) rest digits plain =
     (counts-unquoted ns rest (All-tail IsBoundedDecimal n ns digits) plain)
 
 pub fields-unquoted : (s : Summary) → IsName s.name → All IsBoundedDecimal (counts_of s.locals)
-    → All IsUnquoted (s.name ∷ (map decimal (counts_of s.locals) ++ end_word s.ending ∷ []))
+    → All IsUnquoted (s.name ∷ (map decimal (counts_of s.locals) ++ (ended s.ending).0 ∷ []))
 fields-unquoted s named digits =
-    let last = All-cons IsUnquoted (end_word s.ending) [] (end-unquoted s.ending) (All-nil IsUnquoted) in
-    All-cons IsUnquoted s.name (map decimal (counts_of s.locals) ++ end_word s.ending ∷ []) (name-unquoted s.name named)
-    (counts-unquoted (counts_of s.locals) (end_word s.ending ∷ []) digits last)
+    let last = All-cons IsUnquoted ((ended s.ending).0) [] (end-unquoted s.ending) (All-nil IsUnquoted) in
+    All-cons IsUnquoted s.name (map decimal (counts_of s.locals) ++ (ended s.ending).0 ∷ []) (name-unquoted s.name named)
+    (counts-unquoted (counts_of s.locals) ((ended s.ending).0 ∷ []) digits last)
 
 field_text-unquoted : (f : List ℕ) → IsUnquoted f → field_text default_writer f ≡ f
 field_text-unquoted f plain = rw plain refl

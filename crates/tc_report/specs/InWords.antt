@@ -1,6 +1,6 @@
 -- How reports for people name components, runs and calls: by their numbers, and next to these by their names.
-use Rattle.std.specs.{Prelude.{ℕ, ◌==◌, if◌then◌else◌, Option, List, [], ◌∷◌, ◌++◌, codes, map, slice_get}, Fmt.decimal, List.{enumerate_from, find}, Option.{option_and_then, option_map, option_map_or}}
-use Rattle.tc_rules.specs.Prelude.{Comp, Entry, Group, Op, Reply, Target, is_parked}
+use Rattle.std.specs.{Prelude.{ℕ, ◌==◌, if◌then◌else◌, Option, List, [], ◌∷◌, ◌++◌, codes, length, map, slice_get}, Fmt.decimal, List.{enumerate_from, find, flat_map}, Option.{option_and_then, option_map, option_map_or}}
+use Rattle.tc_rules.specs.Prelude.{Entry, Group, Op, Reply, Target, is_parked}
 use Rattle.tc_text.specs.Prelude.{op_text, reply_text}
 use Rattle.tc_report.specs.{Report.shown_op, declared.naming.{Names.Names, Naming.Naming}}
 
@@ -32,27 +32,18 @@ component_in names c = component_text c (name_at names.comps c)
 abbrev pub run_in : Names → ℕ → List ℕ
 run_in names b = numbered b (behaviour_of names.runs b)
 
--- what a Stop or a Kill is of, as a target
-abbrev pub as_target : Group → Target
-as_target (Group.One c) = Target.One c
-as_target Group.All = Target.All
-
 -- a component, or any or all of them
 abbrev pub target_in : Names → Target → List ℕ
 target_in names (Target.One c) = component_in names c.0
 target_in names Target.Any = codes "any"
 target_in names Target.All = codes "all"
 
--- the components that are handed to a run, after the first word
-abbrev pub args_in : Names → List ℕ → List Comp → List ℕ
-args_in names first [] = []
-args_in names first (c ∷ cs) = first ++ (component_in names c.0 ++ args_in names (codes " ") cs)
-
 -- a call that is shown
 unfoldable pub named_op : Names → Op → List ℕ
-named_op names (Op.Start c run args) = codes "start " ++ (component_in names c.0 ++ (codes " run " ++ (run_in names run.0 ++ args_in names (codes " with ") args)))
-named_op names (Op.Stop g) = codes "stop " ++ target_in names (as_target g)
-named_op names (Op.Kill g) = codes "kill " ++ target_in names (as_target g)
+named_op names (Op.Start c run args) = codes "start " ++ (component_in names c.0 ++ (codes " run " ++ (run_in names run.0
+    ++ (if length args == 0 then [] else codes " with" ++ flat_map (λ a. codes " " ++ component_in names a.0) args))))
+named_op names (Op.Stop (Group.One c)) = codes "stop " ++ component_in names c.0
+named_op names (Op.Kill (Group.One c)) = codes "kill " ++ component_in names c.0
 named_op names (Op.Running t) = codes "running " ++ target_in names t
 named_op names (Op.Alive t) = codes "alive " ++ target_in names t
 named_op names (Op.Done t) = codes "done " ++ target_in names t

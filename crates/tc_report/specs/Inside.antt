@@ -4,7 +4,7 @@ use Rattle.csv.specs.{declared.writer.Writer.Writer, Writing.{default_writer, wr
 use Rattle.tc_stream.specs.Prelude.{AppendsPrefix}
 use Rattle.tc_rules.specs.Prelude.{Comp, Entry, Kept, StandsFor, name_in, name_of, created, is_parked, Verdict, level_of}
 use Rattle.tc_blocks.specs.declared.{header.{Header.Header, Kind.Kind}, line.Line.Line as BlockLine}
-use Rattle.tc_report.specs.{Blocks.{block_names, blocks_text}, Csv.{columns_text, csv_of}, Live.{opening_text, part_text}, InWords.{behaviour_of, component_text, name_at}, Observers.AreTaken, Progress.{AreLinesOf, again_lines, case_place, is_failure, time_text}, Report.{count_of, report_text, tally_of_cases}, Status.{counted_as, verdict_status}, Summary.case_summary, SummaryText.listed, Waits.before_stuck, declared.{fault.OutFault.OutFault, live.LiveForm.LiveForm, naming.Naming.Naming, progress.Progress.Progress, results.{Finished.Finished, Results.Results, Tally.Tally}, said.Said.Said, summary.Summary.Summary}}
+use Rattle.tc_report.specs.{Blocks.{block_names, blocks_text}, Cause.decided_text, Csv.{columns_text, csv_of}, Live.{opening_text, part_text}, InWords.{behaviour_of, component_text, name_at}, Observers.AreTaken, Progress.{AreLinesOf, again_lines, case_place, is_failure, time_text}, Report.{count_of, report_text, tally_of_cases}, Status.{ended, verdict_status}, Summary.case_summary, SummaryText.listed, Waits.before_stuck, declared.{cause.Cause.Cause, fault.OutFault.OutFault, live.LiveForm.LiveForm, naming.Naming.Naming, progress.Progress.Progress, results.{Finished.Finished, Results.Results, Tally.Tally}, said.Said.Said, summary.Summary.Summary}}
 
 -- the bytes in memory, and then those that the writer holds back
 abbrev pub written_by : Writer (Vec ℕ) → List ℕ
@@ -100,6 +100,10 @@ tally_with t v = record {
   error = t.error + one_if (level_of v == level_of Verdict.Error);
 }
 
+-- what decided the verdict of a finished test case, if it is one worse than pass
+abbrev pub after_verdict : Finished → List ℕ
+after_verdict f = option_map_or (λ (c : Cause). codes ": " ++ decided_text (case_summary f).names c) (case_summary f).cause []
+
 -- the line of a finished test case with this reason, after its front
 abbrev pub rest_by : List ℕ → Option (ℕ × ℕ) → Finished → List ℕ
 rest_by why time f = codes " " ++ (f.name ++ (codes " " ++ (name_of f.report.verdict ++ (time_text (codes " ") time (codes " s") ++ (why ++ codes "\n")))))
@@ -145,7 +149,7 @@ is_shown e = not (is_parked e.reply)
 
 -- a test case with a status other than 0
 abbrev pub has_failed : Summary → Bool
-has_failed s = nat_lt 0 (verdict_status (counted_as s.ending))
+has_failed s = nat_lt 0 (verdict_status (ended s.ending).1)
 
 -- the numbers of the components with this local verdict
 abbrev pub numbers_with : Verdict → List Verdict → List ℕ

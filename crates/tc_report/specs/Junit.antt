@@ -3,8 +3,8 @@
 use Rattle.std.specs.{Prelude.{ℕ, ◌==◌, if◌then◌else◌, Option, Some, None, List, [], ◌∷◌, ◌++◌, false, length, filter, codes, slice_get, unwrap_or}, Fmt.decimal, List.{enumerate_from, flat_map}, Option.{option_and_then, option_map_or}}
 use Rattle.jiff_core.specs.declared.civil.datetime.DateTime.{DateTime}
 use Rattle.jiff_fmt.specs.Text.{datetime_text}
-use Rattle.tc_rules.specs.Prelude.{refusal_text, Verdict, level_of, name_of}
-use Rattle.tc_report.specs.{Cause.decided_text, InWords.named_entry, Progress.time_text, Status.{counted_as, verdict_status}, SummaryText.verdict_groups, declared.{cause.Cause.Cause, results.CaseEnd.CaseEnd, stopwatch.Times.Times, summary.Summary.Summary}}
+use Rattle.tc_rules.specs.Prelude.{Verdict, level_of, name_of}
+use Rattle.tc_report.specs.{Cause.decided_text, InWords.named_entry, Progress.time_text, Status.{ended, verdict_status}, SummaryText.verdict_groups, declared.{cause.Cause.Cause, results.CaseEnd.CaseEnd, stopwatch.Times.Times, summary.Summary.Summary}}
 
 -- a byte in XML: without `]` no text has the end of a section in it, so `>` stays
 abbrev pub escaped_byte : ℕ → List ℕ
@@ -13,7 +13,7 @@ escaped_byte b =
 
 -- how many of the test cases count with this status: 1 is a failure, and 2 an error
 abbrev pub with_status : ℕ → List Summary → ℕ
-with_status status ss = length (filter (λ s. verdict_status (counted_as s.ending) == status) ss)
+with_status status ss = length (filter (λ s. verdict_status (ended s.ending).1 == status) ss)
 
 -- an attribute
 unfoldable pub attribute_text : List ℕ → List ℕ → List ℕ
@@ -22,13 +22,13 @@ attribute_text name text = name ++ (text ++ codes "\"")
 -- the counts, as attributes: skipped are those of which no verdict was set
 unfoldable pub counts_attributes : List Summary → List ℕ
 counts_attributes ss =
-    attribute_text (codes " tests=\"") (decimal (length ss)) ++ (attribute_text (codes " failures=\"") (decimal (with_status 1 ss)) ++
-    (attribute_text (codes " errors=\"") (decimal (with_status 2 ss)) ++
-    attribute_text (codes " skipped=\"") (decimal (length (filter (λ s. level_of (counted_as s.ending) == 0) ss)))))
+    attribute_text (codes " tests=\"") (decimal (length ss)) ++ (attribute_text (codes " failures=\"") (decimal (with_status 1 ss))
+    ++ (attribute_text (codes " errors=\"") (decimal (with_status 2 ss))
+    ++ attribute_text (codes " skipped=\"") (decimal (length (filter (λ s. level_of (ended s.ending).1 == 0) ss)))))
 
 -- when a run began, as an attribute, if a clock said it: a second, as ISO 8601 has it, without a fraction
 abbrev pub stamp_attribute : Option DateTime → List ℕ
-stamp_attribute begun = option_map_or (λ d. attribute_text (codes " timestamp=\"") (datetime_text false 84 (Some 0) d)) begun []
+stamp_attribute begun = option_map_or (λ d. codes " timestamp=\"" ++ (datetime_text false 84 (Some 0) d ++ codes "\"")) begun []
 
 -- nothing is known of times
 abbrev pub no_times : Times
@@ -54,25 +54,20 @@ cause_element s c =
     let decision = flat_map escaped_byte (decided_text s.names c) in
     decision ++ (codes "\">\n" ++ (decision ++ (codes "\n" ++ (s.waits ++ flat_map (named_entry (codes "  ") s.names) c.log))))
 
--- the same of a verdict that is worse than pass; if nothing decided it, its name
-abbrev pub why_element : Summary → Verdict → List ℕ
-why_element s v = option_map_or (cause_element s) s.cause (codes "verdict " ++ (name_of v ++ codes "\">\n"))
-
--- the element of such a verdict, between its first text and its last tag
-unfoldable pub verdict_element : Summary → List ℕ → Verdict → List ℕ → List ℕ
-verdict_element s first v last = first ++ (why_element s v ++ last)
+-- the element of a verdict that is worse than pass, under this tag: what decided it; if nothing did, its name
+unfoldable pub verdict_element : Summary → List ℕ → Verdict → List ℕ
+verdict_element s tag v =
+    codes "<" ++ (tag ++ (codes " type=\"" ++ (name_of v ++ (codes "\" message=\""
+    ++ (option_map_or (cause_element s) s.cause (codes "verdict " ++ (name_of v ++ codes "\">\n")) ++ (codes "</" ++ (tag ++ codes ">\n")))))))
 
 -- what is said of this end of a test case: nothing if its verdict is pass
 unfoldable pub end_element : Summary → CaseEnd → List ℕ
 end_element s (CaseEnd.Over Verdict.None) = codes "<skipped/>\n"
 end_element s (CaseEnd.Over Verdict.Pass) = []
-end_element s (CaseEnd.Over Verdict.Inconc) = verdict_element s (codes "<failure type=\"inconc\" message=\"") Verdict.Inconc (codes "</failure>\n")
-end_element s (CaseEnd.Over Verdict.Fail) = verdict_element s (codes "<failure type=\"fail\" message=\"") Verdict.Fail (codes "</failure>\n")
-end_element s (CaseEnd.Over Verdict.Error) = verdict_element s (codes "<error type=\"error\" message=\"") Verdict.Error (codes "</error>\n")
-end_element s CaseEnd.Unfinished = codes "<error type=\"unfinished\" message=\"the test case is not over\"/>\n"
-end_element s (CaseEnd.Aborted why) = codes "<error type=\"aborted\" message=\"" ++ (refusal_text why ++ codes "\"/>\n")
-end_element s CaseEnd.Missing = codes "<error type=\"missing\" message=\"there is no history of the test case\"/>\n"
+end_element s (CaseEnd.Over Verdict.Error) = verdict_element s (codes "error") Verdict.Error
+end_element s (CaseEnd.Over v) = verdict_element s (codes "failure") v
 end_element s CaseEnd.NotRun = codes "<skipped message=\"not run\"/>\n"
+end_element s ending = codes "<error type=\"" ++ ((ended ending).0 ++ (codes "\" message=\"" ++ ((ended ending).2 ++ codes "\"/>\n")))
 
 -- the first tag of a test case, with its name and that of its suite, without its time
 unfoldable pub name_tag : List ℕ → List ℕ → List ℕ

@@ -12,28 +12,23 @@ case_place names at = decimal (at + 1) ++ (codes "/" ++ decimal (length names))
 abbrev pub time_text : List ℕ → Option (ℕ × ℕ) → List ℕ → List ℕ
 time_text first time last = option_map_or (λ (t : ℕ × ℕ). first ++ ((decimal t.0 ++ (codes "." ++ drop 1 (decimal (1000 + t.1)))) ++ last)) time []
 
--- what decided the verdict of a finished test case, if it is one worse than pass
-abbrev pub after_verdict : Finished → List ℕ
-after_verdict f = option_map_or (λ (c : Cause). codes ": " ++ decided_text (case_summary f).names c) (case_summary f).cause []
-
--- the line of a finished test case: its name and overall verdict, how long it took, and what decided the verdict
+-- the line of a finished test case: its name and overall verdict, how long it took, and what decided the verdict, if it is one
+-- worse than pass
 abbrev pub finished_line : List ℕ → Option (ℕ × ℕ) → Finished → List ℕ
 finished_line front time f =
-    front ++ (codes " " ++ (f.name ++ (codes " " ++ (name_of f.report.verdict ++ (time_text (codes " ") time (codes " s") ++ (after_verdict f ++ codes "\n"))))))
+    let why = option_map_or (λ (c : Cause). codes ": " ++ decided_text (case_summary f).names c) (case_summary f).cause [] in
+    front ++ (codes " " ++ (f.name ++ (codes " " ++ (name_of f.report.verdict ++ (time_text (codes " ") time (codes " s") ++ (why ++ codes "\n"))))))
 
 -- the status for the verdict of the test case is not 0
 abbrev pub is_failure : Finished → Bool
 is_failure f = nat_lt 0 (verdict_status f.report.verdict)
 
--- how long all took, if a clock said it: seconds, to a tenth
-abbrev pub whole_time : Option (ℕ × ℕ) → List ℕ
-whole_time time = option_map_or (λ (s : ℕ × ℕ). codes ", " ++ (decimal s.0 ++ (codes "." ++ (decimal (s.1 / 100) ++ codes " s")))) time []
-
--- how many have passed and how many have failed, and how long all took
+-- how many have passed and how many have failed, and how long all took, if a clock said it: seconds, to a tenth
 abbrev pub last_line : Option (ℕ × ℕ) → Tally → List ℕ
 last_line time t =
     if t.cases == 0 then []
-    else decimal (t.none + t.pass) ++ (codes " passed, " ++ (decimal (t.inconc + t.fail + t.error) ++ (codes " failed" ++ (whole_time time ++ codes "\n"))))
+    else decimal (t.none + t.pass) ++ (codes " passed, " ++ (decimal (t.inconc + t.fail + t.error) ++ (codes " failed"
+    ++ (option_map_or (λ (s : ℕ × ℕ). codes ", " ++ (decimal s.0 ++ (codes "." ++ (decimal (s.1 / 100) ++ codes " s")))) time [] ++ codes "\n"))))
 
 -- ---- the lines of all test cases, or of failures only; with it come the names of all
 

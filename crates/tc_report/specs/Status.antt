@@ -1,6 +1,6 @@
 -- The exit status for test cases, by how they ended.
-use Rattle.std.specs.Prelude.{ℕ, if◌then◌else◌, List, map}
-use Rattle.tc_rules.specs.Prelude.{Verdict, worst}
+use Rattle.std.specs.Prelude.{ℕ, if◌then◌else◌, List, [], codes, map}
+use Rattle.tc_rules.specs.Prelude.{Verdict, name_of, refusal_text, worst}
 use Rattle.tc_report.specs.{Report.is_aborted, Summary.case_summary, declared.{results.{CampaignEnd.CampaignEnd, CaseEnd.CaseEnd, Results.Results}, summary.Summary.Summary}}
 
 -- the status for a verdict
@@ -14,16 +14,17 @@ verdict_status v = 0
 abbrev pub ending_status : CampaignEnd → Verdict → ℕ
 ending_status ending v = if is_aborted ending then 3 else verdict_status v
 
--- the verdict that an end counts as: a test case that is not over, is missing, or has no report, counts as error, and one
--- that was not run as none
-abbrev pub counted_as : CaseEnd → Verdict
-counted_as (CaseEnd.Over v) = v
-counted_as CaseEnd.NotRun = Verdict.None
-counted_as ending = Verdict.Error
+-- of this end of a test case its word, the verdict that it counts as, and what JUnit says of one without a verdict
+abbrev pub ended : CaseEnd → List ℕ × Verdict × List ℕ
+ended (CaseEnd.Over v) = (name_of v, v, [])
+ended CaseEnd.Unfinished = (codes "unfinished", Verdict.Error, codes "the test case is not over")
+ended (CaseEnd.Aborted why) = (codes "aborted", Verdict.Error, refusal_text why)
+ended CaseEnd.Missing = (codes "missing", Verdict.Error, codes "there is no history of the test case")
+ended CaseEnd.NotRun = (codes "notrun", Verdict.None, [])
 
 -- the worst of the verdicts that the test cases count as, none if there is no test case
 abbrev pub worst_of : List Summary → Verdict
-worst_of ss = worst (map (λ s. counted_as s.ending) ss)
+worst_of ss = worst (map (λ s. (ended s.ending).1) ss)
 
 -- 3 if the campaign was aborted, otherwise the status for the finished test cases
 abbrev pub results_status : Results → ℕ

@@ -36,14 +36,11 @@ summary_of name n history said =
 abbrev pub block_summary : Block → Summary
 block_summary b = summary_of b.header.name b.header.behaviours (entries_of b.lines) (said_in b.lines)
 
--- what a block of a finished test case says next to its entries: in evidence the names of its behaviours, in a history nothing
-abbrev pub said_of : Kind → Finished → Said
-said_of kind f = record { names = namings_of (block_names kind f); remarks = [] }
-
--- a finished test case by its report, as such a block has it
+-- a finished test case by its report, as its block has it: in evidence with the names of its behaviours, in a history without
 abbrev pub written_summary : Kind → Finished → Summary
 written_summary kind f =
-    summary_with f.name f.report.locals (CaseEnd.Over f.report.verdict) f.report.behaviours f.report.history (said_of kind f)
+    summary_with f.name f.report.locals (CaseEnd.Over f.report.verdict) f.report.behaviours f.report.history
+    (record { names = namings_of (block_names kind f); remarks = [] })
 
 -- the same with all that evidence says
 abbrev pub case_summary : Finished → Summary

@@ -2,21 +2,18 @@
 -- its components by their local verdicts.
 use Rattle.std.specs.{Prelude.{ℕ, ◌+◌, ◌-◌, ◌==◌, nat_lt, not, if◌then◌else◌, Option, Some, List, [], ◌∷◌, ◌++◌, codes, drop, filter, length, map, take}, Fmt.decimal, List.{enumerate_from, flat_map}, Str.bytes_eq}
 use Rattle.tc_rules.specs.Prelude.{refusal_text, is_parked, Verdict, Entry, level_of, name_of}
-use Rattle.tc_report.specs.{Cause.decided_text, Csv.end_word, InWords.{component_text, name_at, named_entry}, Report.{tally_by, tally_line}, Status.{counted_as, verdict_status}, declared.{cause.Cause.Cause, naming.Names.Names, results.CaseEnd.CaseEnd, summary.Summary.Summary}}
+use Rattle.tc_report.specs.{Cause.decided_text, InWords.{component_text, name_at, named_entry}, Report.{tally_by, tally_line}, Status.{ended, verdict_status}, declared.{cause.Cause.Cause, naming.Names.Names, results.CaseEnd.CaseEnd, summary.Summary.Summary}}
 
 -- how many of the test cases ended with this word
 abbrev pub ended_so : List ℕ → List Summary → ℕ
-ended_so word ss = length (filter (λ s. bytes_eq (end_word s.ending) word) ss)
+ended_so word ss = length (filter (λ s. bytes_eq (ended s.ending).0 word) ss)
 
--- the line of those that have none, if there are some
-abbrev pub other_line : List ℕ → List Summary → List ℕ
-other_line word ss = if ended_so word ss == 0 then [] else word ++ (codes " " ++ (decimal (ended_so word ss) ++ (10 ∷ [])))
-
--- the counts
+-- the counts: by verdicts, and a line for each other word with which some ended
 unfoldable pub counts_text : List Summary → List ℕ
 counts_text ss =
-    tally_line (tally_by (length ss) (λ v. ended_so (name_of v) ss)) ++ (other_line (codes "unfinished") ss ++ (other_line (codes "aborted") ss
-    ++ (other_line (codes "missing") ss ++ other_line (codes "notrun") ss)))
+    tally_line (tally_by (length ss) (λ v. ended_so (name_of v) ss))
+    ++ flat_map (λ word. if ended_so word ss == 0 then [] else word ++ (codes " " ++ (decimal (ended_so word ss) ++ (10 ∷ []))))
+    (codes "unfinished" ∷ codes "aborted" ∷ codes "missing" ∷ codes "notrun" ∷ [])
 
 -- the others of a list: each in the same line, if there is room for it, otherwise in the next
 abbrev pub listed : ℕ → List (List ℕ) → List ℕ
@@ -36,8 +33,7 @@ verdict_groups names locals =
 
 -- the last five of the calls of a run, if there are some
 abbrev pub calls_text : Names → List Entry → List ℕ
-calls_text names [] = []
-calls_text names es = codes "  after:\n" ++ flat_map (named_entry (codes "    ") names) (drop (length es - 5) es)
+calls_text names es = if length es == 0 then [] else codes "  after:\n" ++ flat_map (named_entry (codes "    ") names) (drop (length es - 5) es)
 
 -- why a test case ended so: what decided its verdict, who waits for whom, and the calls before it that were not parked; or why
 -- it has no report
@@ -49,8 +45,8 @@ reason_lines s ending cause = []
 
 -- a test case: its name, how it ended and why, and its components
 unfoldable pub shown_case : Summary → List ℕ
-shown_case s = codes "\n" ++ (s.name ++ (codes ": " ++ (end_word s.ending ++ (codes "\n" ++ (reason_lines s s.ending s.cause ++ verdict_groups s.names.comps s.locals)))))
+shown_case s = codes "\n" ++ (s.name ++ (codes ": " ++ ((ended s.ending).0 ++ (codes "\n" ++ (reason_lines s s.ending s.cause ++ verdict_groups s.names.comps s.locals)))))
 
 -- the counts, and each test case that failed: that has a status other than 0
 abbrev pub summary_text : List Summary → List ℕ
-summary_text ss = counts_text ss ++ flat_map shown_case (filter (λ s. nat_lt 0 (verdict_status (counted_as s.ending))) ss)
+summary_text ss = counts_text ss ++ flat_map shown_case (filter (λ s. nat_lt 0 (verdict_status (ended s.ending).1)) ss)

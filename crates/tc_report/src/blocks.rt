@@ -85,15 +85,6 @@ pub(crate) fn append_block(out: &mut Vec<u8>, kind: Kind, case: &Finished) -> Re
     append_named_block(out, &header, names, history, report.verdict)
 }
 
-fn append_blocks(out: &mut Vec<u8>, kind: Kind, cases: &[Finished]) -> Result<(), NoMemory>
-    ensures { OnOk result (out.new.items ≡ out.old.items ++ flat_map (case_block kind) cases.now) }
-{
-    for case in cases {
-        append_block(out, kind, case)?;
-    }
-    Ok(())
-}
-
 fn write_blocks<W: Write>(
     alloc: Global,
     kind: Kind,
@@ -106,7 +97,9 @@ fn write_blocks<W: Write>(
         (blocks_text kind results.now)) }
 {
     let mut text = Vec::new(alloc);
-    append_blocks(&mut text, kind, results.finished.as_slice())?;
+    for case in results.finished.as_slice() {
+        append_block(&mut text, kind, case)?;
+    }
     write_made(writer, text.as_slice())
 }
 

@@ -6,6 +6,7 @@ ghost use Rattle.tc_report.specs.Cause as spec;
 
 use crate::meaning::{append_meaning, started_before};
 use crate::naming::{Names, append_component_in, append_named_call, append_run_in};
+use crate::output::append_between;
 use crate::results::CaseEnd;
 use crate::said::{Remark, reasons};
 use std::alloc::Global;
@@ -100,20 +101,12 @@ fn append_on(out: &mut Vec<u8>, names: &Names, comp: Option<Comp>) -> Result<(),
     Ok(())
 }
 
-fn append_reason(out: &mut Vec<u8>, said: &Sentence) -> Result<(), NoMemory>
-    ensures { OnOk result (out.new.items ≡ out.old.items ++ (codes ": \"" ++ (said.now ++ codes "\""))) }
-{
-    append_text(out, ": \"")?;
-    out.extend_from_slice(said.bytes())?;
-    append_text(out, "\"")
-}
-
 fn append_reasons(out: &mut Vec<u8>, said: &[Sentence]) -> Result<(), NoMemory>
     ensures { OnOk result (out.new.items ≡ out.old.items
         ++ flat_map (λ s. codes ": \"" ++ (s ++ codes "\"")) said.now) }
 {
     for sentence in said {
-        append_reason(out, sentence)?;
+        append_between(out, ": \"", sentence.bytes(), "\"")?;
     }
     Ok(())
 }

@@ -1,16 +1,16 @@
 //! The JUnit report.
-ghost use Rattle.std.specs.{Prelude.{◌≡◌, ◌==◌, ◌++◌, codes, filter, length, slice_get, unwrap_or, IfOk, IfErr, OnOk}, Fmt.decimal, Io.KnownBytes.Appends, List.flat_map, Option.option_and_then};
+ghost use Rattle.std.specs.{Prelude.{◌≡◌, ◌==◌, ◌++◌, codes, filter, length, slice_get, unwrap_or, IfOk, IfErr, OnOk}, Fmt.decimal, Io.KnownBytes.Appends, List.flat_map, Option.{option_and_then, option_map_or}};
 ghost use Rattle.tc_rules.specs.Prelude.{level_of};
-ghost use Rattle.tc_report.specs.{Cause.decided_text, Output.LeavesPrefix, Status.counted_as as spec_counted, declared.summary.Summary.Summary as AnySummary};
+ghost use Rattle.tc_report.specs.{Output.LeavesPrefix, Status.ended as spec_ended, declared.summary.Summary.Summary as AnySummary};
 ghost use Rattle.tc_report.specs.Junit as spec;
 
 use crate::cause::{Cause, append_decision};
 use crate::fault::OutFault;
-use crate::naming::{Names, append_named_entries};
-use crate::output::write_made;
+use crate::naming::append_named_entries;
+use crate::output::{append_between, write_made};
 use crate::progress::append_time;
 use crate::results::CaseEnd;
-use crate::status::{counted_as, verdict_status};
+use crate::status::{ended, verdict_status};
 use crate::stopwatch::Times;
 use crate::summary::Summary;
 use crate::summary_text::append_locals;
@@ -27,14 +27,14 @@ fn with_status(cases: &[Summary], status: u8) -> usize
 {
     cases
         .iter()
-        .filter(|case| verdict_status(counted_as(case.ending)) == status)
+        .filter(|case| verdict_status(ended(case.ending).1) == status)
         .count()
 }
 
 fn with_verdict(cases: &[Summary], verdict: Verdict) -> usize
-    ensures { result ≡ length (filter (λ (s : AnySummary). level_of (spec_counted s.ending) == level_of verdict) cases.now) }
+    ensures { result ≡ length (filter (λ (s : AnySummary). level_of (spec_ended s.ending).1 == level_of verdict) cases.now) }
 {
-    let found = cases.iter().filter(|one| counted_as(one.ending) == verdict);
+    let found = cases.iter().filter(|one| ended(one.ending).1 == verdict);
     found.count()
 }
 
@@ -76,7 +76,7 @@ fn append_stamp(out: &mut Vec<u8>, begun: Option<DateTime>) -> Result<(), NoMemo
     let text = DateTimePrinter::new()
         .precision(Some(0))
         .datetime_text(second);
-    append_text_attribute(out, " timestamp=\"", text.as_str().as_bytes())
+    append_between(out, " timestamp=\"", text.as_str().as_bytes(), "\"")
 }
 
 fn suite_name(suite: &Option<Name>) -> &[u8]
@@ -150,76 +150,45 @@ fn append_escaped(out: &mut Vec<u8>, bytes: &[u8]) -> Result<(), NoMemory>
     Ok(())
 }
 
-fn escaped_decision(alloc: Global, names: &Names, cause: &Cause) -> Result<Vec<u8>, NoMemory>
-    ensures { IfOk result (λ v. v.items ≡ flat_map spec.escaped_byte (decided_text names.now cause.now)) }
-{
-    let mut plain = Vec::new(alloc);
-    append_decision(&mut plain, names, cause)?;
-    let mut escaped = Vec::new(alloc);
-    append_escaped(&mut escaped, plain.as_slice())?;
-    Ok(escaped)
-}
-
 #[tactic(auto, unfolding(crate::specs::Junit::cause_element))]
 fn append_cause_element(out: &mut Vec<u8>, case: &Summary, cause: &Cause) -> Result<(), NoMemory>
     ensures { OnOk result (out.new.items ≡ out.old.items ++ spec.cause_element case.now cause.now) }
 {
-    let decision = escaped_decision(*out.allocator(), &case.names, cause)?;
-    out.extend_from_slice(decision.as_slice())?;
+    let mut decision = Vec::new(*out.allocator());
+    append_decision(&mut decision, &case.names, cause)?;
+    append_escaped(out, decision.as_slice())?;
     append_text(out, "\">\n")?;
-    out.extend_from_slice(decision.as_slice())?;
+    append_escaped(out, decision.as_slice())?;
     append_text(out, "\n")?;
     out.extend_from_slice(case.waits.as_slice())?;
     append_named_entries(out, "  ", &case.names, cause.log.as_slice())
 }
 
-fn append_why(out: &mut Vec<u8>, case: &Summary, verdict: Verdict) -> Result<(), NoMemory>
-    ensures { OnOk result (out.new.items ≡ out.old.items ++ spec.why_element case.now verdict) }
+fn append_why(out: &mut Vec<u8>, case: &Summary, verdict: &str) -> Result<(), NoMemory>
+    ensures { OnOk result (out.new.items ≡ out.old.items ++ option_map_or (spec.cause_element case.now)
+        case.now.cause (codes "verdict " ++ (verdict.now ++ codes "\">\n"))) }
 {
     match &case.cause {
         Some(cause) => append_cause_element(out, case, cause),
-        None => {
-            let text = format!(in *out.allocator(); "verdict {}\">\n", name_of(verdict))?;
-            append_text(out, text.as_str())
-        }
+        None => append_between(out, "verdict ", verdict.as_bytes(), "\">\n"),
     }
 }
 
+// Appends the element of a verdict that is worse than pass, under this tag.
 #[tactic(auto, unfolding(crate::specs::Junit::verdict_element))]
-fn append_verdict_element(
+fn append_worse(
     out: &mut Vec<u8>,
     case: &Summary,
-    first: &str,
+    tag: &str,
     verdict: Verdict,
-    last: &str,
 ) -> Result<(), NoMemory>
-    ensures { OnOk result (out.new.items ≡ out.old.items ++ spec.verdict_element case.now first.now verdict last.now) }
+    ensures { OnOk result (out.new.items ≡ out.old.items ++ spec.verdict_element case.now tag.now verdict) }
 {
-    append_text(out, first)?;
-    append_why(out, case, verdict)?;
-    append_text(out, last)
-}
-
-#[tactic(auto, unfolding(crate::specs::Junit::end_element))]
-fn append_verdict_end(out: &mut Vec<u8>, case: &Summary, verdict: Verdict) -> Result<(), NoMemory>
-    ensures { OnOk result (out.new.items ≡ out.old.items ++ spec.end_element case.now (CaseEnd.Over verdict)) }
-{
-    match verdict {
-        Verdict::None => append_text(out, "<skipped/>\n"),
-        Verdict::Pass => Ok(()),
-        Verdict::Inconc => {
-            let first = "<failure type=\"inconc\" message=\"";
-            append_verdict_element(out, case, first, verdict, "</failure>\n")
-        }
-        Verdict::Fail => {
-            let first = "<failure type=\"fail\" message=\"";
-            append_verdict_element(out, case, first, verdict, "</failure>\n")
-        }
-        Verdict::Error => {
-            let first = "<error type=\"error\" message=\"";
-            append_verdict_element(out, case, first, verdict, "</error>\n")
-        }
-    }
+    append_between(out, "<", tag.as_bytes(), " type=\"")?;
+    append_text(out, name_of(verdict))?;
+    append_text(out, "\" message=\"")?;
+    append_why(out, case, name_of(verdict))?;
+    append_between(out, "</", tag.as_bytes(), ">\n")
 }
 
 #[tactic(auto, unfolding(crate::specs::Junit::end_element))]
@@ -227,7 +196,12 @@ fn append_end_element(out: &mut Vec<u8>, case: &Summary) -> Result<(), NoMemory>
     ensures { OnOk result (out.new.items ≡ out.old.items ++ spec.end_element case.now case.now.ending) }
 {
     match case.ending {
-        CaseEnd::Over(verdict) => append_verdict_end(out, case, verdict),
+        CaseEnd::Over(Verdict::None) => append_text(out, "<skipped/>\n"),
+        CaseEnd::Over(Verdict::Pass) => Ok(()),
+        CaseEnd::Over(Verdict::Inconc) => append_worse(out, case, "failure", Verdict::Inconc),
+        CaseEnd::Over(Verdict::Fail) => append_worse(out, case, "failure", Verdict::Fail),
+        CaseEnd::Over(Verdict::Error) => append_worse(out, case, "error", Verdict::Error),
+        CaseEnd::NotRun => append_text(out, "<skipped message=\"not run\"/>\n"),
         CaseEnd::Unfinished => append_text(
             out,
             "<error type=\"unfinished\" message=\"the test case is not over\"/>\n",
@@ -241,7 +215,6 @@ fn append_end_element(out: &mut Vec<u8>, case: &Summary) -> Result<(), NoMemory>
             out,
             "<error type=\"missing\" message=\"there is no history of the test case\"/>\n",
         ),
-        CaseEnd::NotRun => append_text(out, "<skipped message=\"not run\"/>\n"),
     }
 }
 

@@ -1,6 +1,5 @@
 //! What the dynamic error of a deciding call means.
-ghost use Rattle.std.specs.Prelude.{◌≡◌, ◌==◌, ◌&&◌, ◌++◌, OnOk, Some, None, if◌then◌else◌, is_some, not, reverse};
-ghost use Rattle.tc_rules.specs.Prelude.{comp_of};
+ghost use Rattle.std.specs.Prelude.{◌≡◌, ◌++◌, OnOk, reverse};
 ghost use Rattle.tc_report.specs.Meaning as spec;
 
 use crate::naming::{Names, append_around_run};
@@ -8,20 +7,13 @@ use tc_entry::{Entry, Fault, NoMemory, Op, Reply, Run};
 use tc_rules::component_of;
 use tc_text::append_text;
 
-// The run, if this history started it.
-fn known(history: &[Entry], run: Run) -> Option<Run>
-    ensures { result ≡ (if not (run.0 == 0) && is_some (comp_of (reverse history.now) run.0) then Some run else None) }
-{
-    let is_known = run.0 != 0 && component_of(history, run).is_some();
-    if is_known { Some(run) } else { None }
-}
-
 /// The run that a Start is refused since this history started it.
 pub(crate) fn started_before(history: &[Entry], entry: &Entry) -> Option<Run>
     ensures { result ≡ spec.started_before (reverse history.now) entry.now.op entry.now.reply }
 {
     match (&entry.op, entry.reply) {
-        (Op::Start { run, .. }, Reply::Fault(Fault::NoBehaviour)) => known(history, *run),
+        (Op::Start { run, .. }, Reply::Fault(Fault::NoBehaviour))
+            if run.0 != 0 && component_of(history, *run).is_some() => { Some(*run) }
         _ => None,
     }
 }

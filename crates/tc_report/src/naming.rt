@@ -1,7 +1,7 @@
 //! How reports for people name components, runs and calls.
-ghost use Rattle.std.specs.{Prelude.{◌≡◌, ◌++◌, [], IfOk, OnOk, codes, if◌then◌else◌, option_copied}, List.flat_map};
-ghost use Rattle.tc_rules.specs.Prelude.{name_in as spec_name};
-ghost use Rattle.tc_report.specs.{Inside.made_name, Report.shown_op};
+ghost use Rattle.std.specs.{Prelude.{◌≡◌, ◌++◌, [], ◌==◌, IfOk, OnOk, codes, if◌then◌else◌, length, option_copied, unwrap_or}, List.flat_map};
+ghost use Rattle.tc_rules.specs.Prelude.{Comp as AnyComp, name_in as spec_name};
+ghost use Rattle.tc_report.specs.Report.{shown_op};
 ghost use Rattle.tc_report.specs.InWords as spec;
 ghost use Rattle.tc_report.specs.Summary as summaries;
 
@@ -37,6 +37,16 @@ pub fn namings_of(alloc: Global, names: &[Name]) -> Result<Vec<Naming>, NoMemory
         name: name.copy(),
     });
     Ok(namings.collect(alloc)?)
+}
+
+/// The bytes of a name, or these.
+pub(crate) fn bytes_or<'a>(name: Option<&'a Name>, other: &'a [u8]) -> &'a [u8]
+    ensures { result.now ≡ unwrap_or (option_copied name.entry) other.now }
+{
+    match name {
+        Some(name) => name.bytes(),
+        None => other,
+    }
 }
 
 fn name_at(names: &[Option<Name>], place: usize) -> Option<&Name>
@@ -115,15 +125,6 @@ pub(crate) fn append_around_run(
     append_text(out, after)
 }
 
-fn as_target(group: Group) -> Target
-    ensures { result ≡ spec.as_target group }
-{
-    match group {
-        Group::One(comp) => Target::One(comp),
-        Group::All => Target::All,
-    }
-}
-
 /// Appends which component is meant. If memory runs out, a part of it.
 pub(crate) fn append_target_in(
     out: &mut Vec<u8>,
@@ -139,38 +140,20 @@ pub(crate) fn append_target_in(
     }
 }
 
-// Appends the components that are handed to a run, after the first word; if memory runs out, a part of them.
-fn append_args_in(
-    out: &mut Vec<u8>,
-    names: &Names,
-    first: &str,
-    comps: &[Comp],
-) -> Result<(), NoMemory>
-    ensures { OnOk result (out.new.items ≡ out.old.items ++ spec.args_in names.now first.now comps.now) }
+// Appends the components that are handed to a run, if there are some; if memory runs out, a part of them.
+fn append_args_in(out: &mut Vec<u8>, names: &Names, comps: &[Comp]) -> Result<(), NoMemory>
+    ensures { OnOk result (out.new.items ≡ out.old.items ++ (if length comps.now == 0 then []
+        else codes " with" ++ flat_map (λ (a : AnyComp). codes " " ++ spec.component_in names.now a.0) comps.now)) }
 {
-    let Some((comp, rest)) = comps.split_first() else {
+    if comps.is_empty() {
         return Ok(());
-    };
-    append_text(out, first)?;
-    append_component_in(out, names, *comp)?;
-    append_args_in(out, names, " ", rest)
-}
-
-fn append_start_in(
-    out: &mut Vec<u8>,
-    names: &Names,
-    comp: Comp,
-    run: Run,
-    comps: &[Comp],
-) -> Result<(), NoMemory>
-    ensures { OnOk result (out.new.items ≡ out.old.items ++ (codes "start " ++ (spec.component_in names.now comp.0
-        ++ (codes " run " ++ (spec.run_in names.now run.0 ++ spec.args_in names.now (codes " with ") comps.now))))) }
-{
-    append_text(out, "start ")?;
-    append_component_in(out, names, comp)?;
-    append_text(out, " run ")?;
-    append_run_in(out, names, run)?;
-    append_args_in(out, names, " with ", comps)
+    }
+    append_text(out, " with")?;
+    for comp in comps {
+        append_text(out, " ")?;
+        append_component_in(out, names, *comp)?;
+    }
+    Ok(())
 }
 
 fn append_about(
@@ -185,31 +168,35 @@ fn append_about(
     append_target_in(out, names, target)
 }
 
-fn wait_words(killed: bool) -> &'static str
-    ensures { result.now ≡ (if killed then codes "wait killed " else codes "wait done ") }
-{
-    if killed { "wait killed " } else { "wait done " }
-}
-
 // Appends a call; a Wake is shown as the Wait with the same target. If memory runs out, a part of it.
 #[tactic(auto, unfolding(crate::specs::InWords::named_op))]
 fn append_named_op(out: &mut Vec<u8>, names: &Names, op: &Op) -> Result<(), NoMemory>
     ensures { OnOk result (out.new.items ≡ out.old.items ++ spec.named_op names.now (shown_op op.now)) }
 {
     match op {
-        Op::Start { comp, run, args } => append_start_in(out, names, *comp, *run, args.as_slice()),
-        Op::Stop(group) => append_about(out, names, "stop ", as_target(*group)),
-        Op::Kill(group) => append_about(out, names, "kill ", as_target(*group)),
+        Op::Start { comp, run, args } => {
+            append_text(out, "start ")?;
+            append_component_in(out, names, *comp)?;
+            append_text(out, " run ")?;
+            append_run_in(out, names, *run)?;
+            append_args_in(out, names, args.as_slice())
+        }
+        Op::Stop(Group::One(comp)) => append_about(out, names, "stop ", Target::One(*comp)),
+        Op::Kill(Group::One(comp)) => append_about(out, names, "kill ", Target::One(*comp)),
         Op::Running(target) => append_about(out, names, "running ", *target),
         Op::Alive(target) => append_about(out, names, "alive ", *target),
         Op::Done(target) => append_about(out, names, "done ", *target),
         Op::Killed(target) => append_about(out, names, "killed ", *target),
         Op::Wait { killed, target } | Op::Wake { killed, target } => {
-            append_about(out, names, wait_words(*killed), *target)
+            let words = if *killed {
+                "wait killed "
+            } else {
+                "wait done "
+            };
+            append_about(out, names, words, *target)
         }
-        Op::Create { .. } | Op::StopCase | Op::SetVerdict(_) | Op::GetVerdict | Op::Finish => {
-            write_op(out, op)
-        }
+        Op::Stop(Group::All) | Op::Kill(Group::All) | Op::Create { .. } => write_op(out, op),
+        Op::StopCase | Op::SetVerdict(_) | Op::GetVerdict | Op::Finish => write_op(out, op),
     }
 }
 
@@ -228,24 +215,7 @@ pub fn append_named_call(
     write_reply(out, &reply)
 }
 
-// Appends the line of an entry after this front: nothing if it was parked. If memory runs out, a part of it.
-fn append_named_entry(
-    out: &mut Vec<u8>,
-    front: &str,
-    names: &Names,
-    entry: &Entry,
-) -> Result<(), NoMemory>
-    ensures { OnOk result (out.new.items ≡ out.old.items ++ spec.named_entry front.now names.now entry.now) }
-{
-    if matches!(entry.reply, Reply::Parked) {
-        return Ok(());
-    }
-    append_text(out, front)?;
-    append_named_call(out, names, &entry.op, entry.reply)?;
-    append_text(out, "\n")
-}
-
-/// Appends the line of each entry after this front. If memory runs out, a part of them.
+/// Appends the line of each entry that was not parked after this front. If memory runs out, a part of them.
 pub(crate) fn append_named_entries(
     out: &mut Vec<u8>,
     front: &str,
@@ -255,7 +225,11 @@ pub(crate) fn append_named_entries(
     ensures { OnOk result (out.new.items ≡ out.old.items ++ flat_map (spec.named_entry front.now names.now) entries.now) }
 {
     for entry in entries {
-        append_named_entry(out, front, names, entry)?;
+        if !matches!(entry.reply, Reply::Parked) {
+            append_text(out, front)?;
+            append_named_call(out, names, &entry.op, entry.reply)?;
+            append_text(out, "\n")?;
+        }
     }
     Ok(())
 }
@@ -269,15 +243,6 @@ fn name_in(op: &Op) -> Option<Name>
     }
 }
 
-fn add_made(names: &mut Vec<Option<Name>>, entry: &Entry) -> Result<(), NoMemory>
-    ensures { OnOk result (names.new.items ≡ names.old.items ++ made_name entry.now) }
-{
-    if created(&entry.op, entry.reply).is_some() {
-        names.push(name_in(&entry.op))?;
-    }
-    Ok(())
-}
-
 // The names of the components of this history, in one pass.
 fn comp_names(alloc: Global, history: &[Entry]) -> Result<Vec<Option<Name>>, NoMemory>
     ensures { IfOk result (λ v. v.items ≡ (summaries.names_in history.now []).comps) }
@@ -285,7 +250,9 @@ fn comp_names(alloc: Global, history: &[Entry]) -> Result<Vec<Option<Name>>, NoM
     let mut names = Vec::new(alloc);
     names.push(None)?;
     for entry in history {
-        add_made(&mut names, entry)?;
+        if created(&entry.op, entry.reply).is_some() {
+            names.push(name_in(&entry.op))?;
+        }
     }
     Ok(names)
 }

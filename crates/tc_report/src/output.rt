@@ -1,11 +1,37 @@
-//! Writing a text that was made whole.
-ghost use Rattle.std.specs.{Prelude.{◌++◌, OnOk, OnErr, IfErr}, Io.KnownBytes.Appends};
+//! Appending to a text, and writing one that was made whole.
+ghost use Rattle.std.specs.{Prelude.{◌≡◌, ◌++◌, OnOk, OnErr, IfErr}, Fmt.decimal, Io.KnownBytes.Appends, Io.StartsWith};
 ghost use Rattle.tc_stream.specs.Prelude.{AppendsPrefix};
 ghost use Rattle.tc_report.specs.Output.{LeavesPrefix};
 
 use crate::fault::OutFault;
 use std::io::Write;
+use tc_entry::NoMemory;
 use tc_stream::{WriteFault, write_whole};
+use tc_text::{append_number, append_text};
+
+/// Appends bytes between two texts; if memory runs out, a part of them.
+pub(crate) fn append_between(
+    out: &mut Vec<u8>,
+    before: &str,
+    bytes: &[u8],
+    after: &str,
+) -> Result<(), NoMemory>
+    ensures ok { OnOk result (out.new.items ≡ out.old.items
+        ++ (before.now ++ (bytes.now ++ after.now))) }
+    ensures err { OnErr result (StartsWith out.new.items out.old.items) }
+{
+    append_text(out, before)?;
+    out.extend_from_slice(bytes)?;
+    append_text(out, after)
+}
+
+/// Appends the words, and then the number.
+pub(crate) fn append_count(out: &mut Vec<u8>, words: &str, count: usize) -> Result<(), NoMemory>
+    ensures { OnOk result (out.new.items ≡ out.old.items ++ (words.now ++ decimal count)) }
+{
+    append_text(out, words)?;
+    append_number(out, count as u64)
+}
 
 /// Writes the text.
 pub(crate) fn write_made<W: Write>(writer: &mut W, text: &[u8]) -> Result<(), OutFault>

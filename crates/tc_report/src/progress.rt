@@ -1,13 +1,12 @@
 //! What is printed about test cases as they begin and finish.
-ghost use Rattle.std.specs.{Prelude.{ℕ, List, Option, ◌≡◌, ◌+◌, ◌++◌, ◌∷◌, [], true, None, IfOk, OnOk, OnErr, codes, drop}, Fmt.decimal, Io.KnownBytes.Appends, Option.option_map_or};
+ghost use Rattle.std.specs.{Prelude.{ℕ, List, Option, ◌≡◌, ◌+◌, ◌/◌, ◌++◌, ◌∷◌, [], true, None, IfOk, OnOk, OnErr, codes, drop}, Fmt.decimal, Io.KnownBytes.Appends, Option.option_map_or};
 ghost use Rattle.tc_stream.specs.Prelude.{AppendsPrefix};
-ghost use Rattle.tc_report.specs.{Cause.decided_text, Inside.IsOneMore, Inside.OnlyPrints, Inside.again_by, Inside.line_by_place, Inside.rest_by, Observers.KeepsTimes, Progress.HasTold, Progress.IsToldBy, Progress.TellsProgress, Progress.again_lines, Progress.begun_text, Progress.case_place, Progress.finished_text, Progress.last_line, Progress.time_text, Progress.after_verdict, Progress.whole_time, declared.cause.Cause.Cause as AnyCause};
+ghost use Rattle.tc_report.specs.{Inside.IsOneMore, Inside.OnlyPrints, Inside.after_verdict, Inside.again_by, Inside.line_by_place, Inside.rest_by, Observers.KeepsTimes, Progress.HasTold, Progress.IsToldBy, Progress.TellsProgress, Progress.again_lines, Progress.begun_text, Progress.case_place, Progress.finished_text, Progress.last_line, Progress.time_text};
 
-use crate::cause::{Cause, append_decision};
+use crate::cause::append_decision;
 use crate::fault::OutFault;
-use crate::naming::Names;
 use crate::observer::Observer;
-use crate::output::print;
+use crate::output::{append_between, append_count, print};
 use crate::results::{Finished, Tally, tally_cases, with_case};
 use crate::status::{is_met, verdict_status};
 use crate::stopwatch::Stopwatch;
@@ -25,17 +24,14 @@ fn append_place(out: &mut Vec<u8>, at: usize, names: &[Name]) -> Result<(), NoMe
 {
     let place = at.checked_add(1).ok_or(NoMemory)?;
     append_number(out, place as u64)?;
-    append_text(out, "/")?;
-    append_number(out, names.len() as u64)
+    append_count(out, "/", names.len())
 }
 
 // Appends the end of the line of a test case that begins.
 fn append_begun(out: &mut Vec<u8>, name: &Name) -> Result<(), NoMemory>
     ensures { OnOk result (out.new.items ≡ out.old.items ++ (codes " " ++ (name.now ++ codes " ..\n"))) }
 {
-    append_text(out, " ")?;
-    out.extend_from_slice(name.bytes())?;
-    append_text(out, " ..\n")
+    append_between(out, " ", name.bytes(), " ..\n")
 }
 
 /// Which lines are printed.
@@ -90,31 +86,16 @@ pub(crate) fn append_time(
     append_text(out, last)
 }
 
-// Appends what decided a verdict after a colon, if something did.
-fn append_if_decided(
-    out: &mut Vec<u8>,
-    names: &Names,
-    cause: &Option<Cause>,
-) -> Result<(), NoMemory>
-    ensures { OnOk result (out.new.items ≡ out.old.items
-        ++ option_map_or (λ (c : AnyCause). codes ": " ++ decided_text names.now c) cause.now []) }
-{
-    match cause {
-        Some(cause) => {
-            append_text(out, ": ")?;
-            append_decision(out, names, cause)
-        }
-        None => Ok(()),
-    }
-}
-
 // What decided the verdict of the test case, if it is one worse than pass.
 fn why(alloc: Global, case: &Finished) -> Result<Vec<u8>, NoMemory>
     ensures { IfOk result (λ v. v.items ≡ after_verdict case.now) }
 {
     let summary = summary_of_case(alloc, case)?;
     let mut text = Vec::new(alloc);
-    append_if_decided(&mut text, &summary.names, &summary.cause)?;
+    if let Some(cause) = &summary.cause {
+        append_text(&mut text, ": ")?;
+        append_decision(&mut text, &summary.names, cause)?;
+    }
     Ok(text)
 }
 
@@ -126,9 +107,7 @@ fn append_line(
 ) -> Result<(), NoMemory>
     ensures { OnOk result (out.new.items ≡ out.old.items ++ rest_by why.now time case.now) }
 {
-    append_text(out, " ")?;
-    out.extend_from_slice(case.name.bytes())?;
-    append_text(out, " ")?;
+    append_between(out, " ", case.name.bytes(), " ")?;
     append_text(out, name_of(case.report.verdict))?;
     append_time(out, " ", time, " s")?;
     out.extend_from_slice(why)?;
@@ -146,17 +125,10 @@ fn append_failed(out: &mut Vec<u8>, case: &Finished, only: bool, why: &[u8]) -> 
     append_line(out, case, None, why)
 }
 
-// Appends the sum. A number that the machine lacks is more than there is memory for.
-fn append_sum(out: &mut Vec<u8>, first: usize, second: usize) -> Result<(), NoMemory>
-    ensures { OnOk result (out.new.items ≡ out.old.items ++ decimal (first + second)) }
-{
-    let sum = first.checked_add(second).ok_or(NoMemory)?;
-    append_number(out, sum as u64)
-}
-
 // Appends how long all took, if a clock said it: seconds, to a tenth.
 fn append_whole_time(out: &mut Vec<u8>, time: Option<(u64, u32)>) -> Result<(), NoMemory>
-    ensures { OnOk result (out.new.items ≡ out.old.items ++ whole_time time) }
+    ensures { OnOk result (out.new.items ≡ out.old.items ++ option_map_or (λ (s : ℕ × ℕ).
+        codes ", " ++ (decimal s.0 ++ (codes "." ++ (decimal (s.1 / 100) ++ codes " s")))) time []) }
 {
     let Some((seconds, thousandths)) = time else {
         return Ok(());
@@ -167,16 +139,18 @@ fn append_whole_time(out: &mut Vec<u8>, time: Option<(u64, u32)>) -> Result<(), 
 }
 
 // Appends the last line: how many have passed and how many have failed, and how long all took; nothing if there is none.
+// A number that the machine lacks is more than there is memory for.
 fn append_last(out: &mut Vec<u8>, tally: &Tally, time: Option<(u64, u32)>) -> Result<(), NoMemory>
     ensures { OnOk result (out.new.items ≡ out.old.items ++ last_line time tally.now) }
 {
     if tally.cases == 0 {
         return Ok(());
     }
+    let passed = tally.none.checked_add(tally.pass).ok_or(NoMemory)?;
     let failed = tally.inconc.checked_add(tally.fail).ok_or(NoMemory)?;
-    append_sum(out, tally.none, tally.pass)?;
-    append_text(out, " passed, ")?;
-    append_sum(out, failed, tally.error)?;
+    let failed = failed.checked_add(tally.error).ok_or(NoMemory)?;
+    append_number(out, passed as u64)?;
+    append_count(out, " passed, ", failed)?;
     append_text(out, " failed")?;
     append_whole_time(out, time)?;
     append_text(out, "\n")

@@ -2,17 +2,17 @@
 ghost use Rattle.std.specs.{Prelude.{◌≡◌, ◌++◌, ◌∷◌, [], OnOk, IfOk, IfErr, All, map}, Fmt.IsBoundedDecimal, Fmt.decimal, Io.KnownBytes.Appends, List.flat_map};
 ghost use Rattle.csv.specs.Records.{fields_of, partial_of};
 ghost use Rattle.tc_rules.specs.Prelude.{IsName};
-ghost use Rattle.tc_report.specs.{Csv.columns_text, Csv.csv_of, Csv.end_word as spec_word, Csv.row_line, Inside.IsBetweenRecords, Inside.IsStarted, Inside.counts_of, Inside.written_by, Output.LeavesPrefix, Summary.case_summary};
+ghost use Rattle.tc_report.specs.{Csv.columns_text, Csv.csv_of, Csv.row_line, Inside.IsBetweenRecords, Inside.IsStarted, Inside.counts_of, Inside.written_by, Output.LeavesPrefix, Status.ended, Summary.case_summary};
 
 use crate::fault::OutFault;
 use crate::output::write_made;
-use crate::results::{CaseEnd, Finished, Results, count_of};
+use crate::results::{Finished, Results, count_of};
+use crate::status::ended as case_ended;
 use crate::summary::{Summary, summaries_of_cases, summary_of_case};
 use csv::{ByteRecord, Writer, WriterBuilder};
 use std::alloc::Global;
 use std::io::Write;
 use tc_entry::{NoMemory, Verdict};
-use tc_verdict::name as name_of;
 
 fn push_count(alloc: Global, row: &mut ByteRecord, count: usize) -> Result<(), NoMemory>
     requires { partial_of row.old ≡ [] }
@@ -23,19 +23,6 @@ fn push_count(alloc: Global, row: &mut ByteRecord, count: usize) -> Result<(), N
     let digits = count.to_string(alloc)?;
     row.push_field(digits.as_bytes())?;
     Ok(())
-}
-
-/// The word for the end of a test case: its overall verdict, `unfinished`, `aborted`, `missing` or `notrun`.
-pub(crate) fn end_word(ending: CaseEnd) -> &'static str
-    ensures { result.now ≡ spec_word ending }
-{
-    match ending {
-        CaseEnd::Over(verdict) => name_of(verdict),
-        CaseEnd::Unfinished => "unfinished",
-        CaseEnd::Aborted(_) => "aborted",
-        CaseEnd::Missing => "missing",
-        CaseEnd::NotRun => "notrun",
-    }
 }
 
 fn push_counts(alloc: Global, row: &mut ByteRecord, locals: &[Verdict]) -> Result<(), NoMemory>
@@ -55,13 +42,13 @@ fn push_counts(alloc: Global, row: &mut ByteRecord, locals: &[Verdict]) -> Resul
 fn push_fields(alloc: Global, row: &mut ByteRecord, case: &Summary) -> Result<(), NoMemory>
     requires none { fields_of row.old ≡ [] }
     requires partial { partial_of row.old ≡ [] }
-    ensures fields { OnOk result (fields_of row.new ≡ case.now.name ∷ (map decimal (counts_of case.now.locals) ++ spec_word case.now.ending ∷ [])) }
+    ensures fields { OnOk result (fields_of row.new ≡ case.now.name ∷ (map decimal (counts_of case.now.locals) ++ (ended case.now.ending).0 ∷ [])) }
     ensures name { OnOk result (IsName case.now.name) }
     ensures digits { OnOk result (All IsBoundedDecimal (counts_of case.now.locals)) }
 {
     row.push_field(case.name.bytes())?;
     push_counts(alloc, row, case.locals.as_slice())?;
-    row.push_field(end_word(case.ending).as_bytes())?;
+    row.push_field(case_ended(case.ending).0.as_bytes())?;
     Ok(())
 }
 
@@ -114,23 +101,15 @@ fn started(alloc: Global) -> Result<Writer<Vec<u8>>, NoMemory>
     }
 }
 
-fn add_rows(alloc: Global, writer: &mut Writer<Vec<u8>>, cases: &[Summary]) -> Result<(), NoMemory>
-    requires { IsBetweenRecords writer.old }
-    ensures { OnOk result (written_by writer.new ≡ written_by writer.old ++ flat_map row_line cases.now) }
-{
-    for case in cases {
-        add_row(alloc, writer, case)?;
-    }
-    Ok(())
-}
-
 /// The CSV report of these test cases: a header, and a record for each, with how many components it has, how many of them
 /// have each local verdict, and how it ended.
 pub fn csv_report(alloc: Global, cases: &[Summary]) -> Result<Vec<u8>, NoMemory>
     ensures { IfOk result (λ v. v.items ≡ csv_of cases.now) }
 {
     let mut writer = started(alloc)?;
-    add_rows(alloc, &mut writer, cases)?;
+    for case in cases {
+        add_row(alloc, &mut writer, case)?;
+    }
     whole(writer)
 }
 

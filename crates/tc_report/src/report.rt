@@ -1,13 +1,13 @@
 //! The text report, of results and of histories, with its tally and how a campaign ended.
-ghost use Rattle.std.specs.{Prelude.{◌≡◌, ◌+◌, ◌++◌, ◌∷◌, OnOk, OnErr, IfOk, IfErr, IfSome, [], codes, option_copied, reverse, slice_get, unwrap_or}, Fmt.decimal, Io.KnownBytes.Appends, Io.StartsWith, List.flat_map};
+ghost use Rattle.std.specs.{Prelude.{◌≡◌, ◌+◌, ◌++◌, ◌∷◌, OnOk, OnErr, IfOk, IfErr, IfSome, [], codes, reverse, slice_get, unwrap_or}, Fmt.decimal, Io.KnownBytes.Appends, Io.StartsWith, List.flat_map};
 ghost use Rattle.tc_stream.specs.Prelude.{AppendsPrefix};
 ghost use Rattle.tc_text.specs.Prelude.{op_text, reply_text};
 ghost use Rattle.tc_rules.specs.Prelude.{comp_of, log_if, logs_below, name_of as spec_name, part};
 ghost use Rattle.tc_report.specs.{Inside.name_or_none, Output.LeavesPrefix, Replayed.replayed_text, Replayed.verdicts_closing, Report.abort_text, Report.aborted_text, Report.case_text, Report.ending_line, Report.is_aborted, Report.local_lines, Report.report_text, Report.run_text, Report.shown_entry, Report.shown_op, Report.tally_line, Report.tally_of_cases, Report.verdict_line, declared.results.CampaignEnd.TheVariants.Aborted};
 
 use crate::fault::OutFault;
-use crate::naming::{Naming, behaviour_of};
-use crate::output::{write_both, write_made};
+use crate::naming::{Naming, behaviour_of, bytes_or};
+use crate::output::{append_between, append_count, write_both, write_made};
 use crate::results::{CampaignEnd, Finished, Results, Tally, count_of, tally_cases};
 use crate::summary::Summary;
 use std::alloc::Global;
@@ -79,54 +79,34 @@ pub(crate) fn append_entry(out: &mut Vec<u8>, entry: &Entry) -> Result<(), NoMem
     append_op(out, &entry.op)?;
     append_text(out, " -> ")?;
     write_reply(out, &entry.reply)?;
-    out.push(b'\n')?;
-    Ok(())
+    append_text(out, "\n")
 }
 
-/// Appends what is shown of each entry.
-pub(crate) fn append_entries(out: &mut Vec<u8>, entries: &[Entry]) -> Result<(), NoMemory>
-    ensures { OnOk result (out.new.items ≡ out.old.items ++ flat_map shown_entry entries.now) }
-{
-    for entry in entries {
-        append_entry(out, entry)?;
-    }
-    Ok(())
-}
-
-fn append_behaviour(out: &mut Vec<u8>, name: Option<&Name>) -> Result<(), NoMemory>
-    ensures { OnOk result (out.new.items ≡ out.old.items ++ unwrap_or (option_copied name.entry) []) }
-{
-    if let Some(name) = name {
-        out.extend_from_slice(name.bytes())?;
-    }
-    Ok(())
-}
-
-/// Appends the line of a run on this component, whose behaviour has this name, if it has one.
+/// Appends the line of a run on this component, whose behaviour has this name.
 pub(crate) fn append_run_line(
     out: &mut Vec<u8>,
     run: Run,
-    name: Option<&Name>,
+    name: &[u8],
     comp: Comp,
 ) -> Result<(), NoMemory>
     ensures { OnOk result (out.new.items ≡ out.old.items ++ (codes "run " ++ (decimal run.0 ++ (codes " "
-        ++ (unwrap_or (option_copied name.entry) [] ++ (codes " on " ++ (decimal comp.0 ++ 10 ∷ []))))))) }
+        ++ (name.now ++ (codes " on " ++ (decimal comp.0 ++ 10 ∷ []))))))) }
 {
-    append_text(out, "run ")?;
-    append_number(out, u64::from(run.0))?;
-    append_text(out, " ")?;
-    append_behaviour(out, name)?;
-    append_text(out, " on ")?;
+    append_count(out, "run ", usize::from(run.0))?;
+    append_between(out, " ", name, " on ")?;
     append_number(out, u64::from(comp.0))?;
-    out.push(b'\n')?;
-    Ok(())
+    append_text(out, "\n")
 }
 
 fn append_run(out: &mut Vec<u8>, names: &[Name], log: &RunLog) -> Result<(), NoMemory>
     ensures { OnOk result (out.new.items ≡ out.old.items ++ run_text (λ b. unwrap_or (slice_get names.now b) []) log.now) }
 {
-    append_run_line(out, log.run, names.get(usize::from(log.run.0)), log.comp)?;
-    append_entries(out, log.entries.as_slice())
+    let name = names.get(usize::from(log.run.0));
+    append_run_line(out, log.run, bytes_or(name, b""), log.comp)?;
+    for entry in log.entries.as_slice() {
+        append_entry(out, entry)?;
+    }
+    Ok(())
 }
 
 fn append_runs(out: &mut Vec<u8>, names: &[Name], logs: &[RunLog]) -> Result<(), NoMemory>
@@ -143,12 +123,8 @@ fn append_local(out: &mut Vec<u8>, comp: usize, verdict: Verdict) -> Result<(), 
     ensures { OnOk result (out.new.items ≡ out.old.items
         ++ (codes "local " ++ (decimal comp ++ (codes " " ++ (spec_name verdict ++ 10 ∷ []))))) }
 {
-    append_text(out, "local ")?;
-    append_number(out, comp as u64)?;
-    append_text(out, " ")?;
-    append_text(out, name_of(verdict))?;
-    out.push(b'\n')?;
-    Ok(())
+    append_count(out, "local ", comp)?;
+    append_between(out, " ", name_of(verdict).as_bytes(), "\n")
 }
 
 /// Appends the line of each component's local verdict.
@@ -161,25 +137,12 @@ pub(crate) fn append_locals(out: &mut Vec<u8>, locals: &[Verdict]) -> Result<(),
     Ok(())
 }
 
-/// Appends the line that names a test case.
-pub(crate) fn append_name(out: &mut Vec<u8>, name: &Name) -> Result<(), NoMemory>
-    ensures { OnOk result (out.new.items ≡ out.old.items ++ (codes "testcase " ++ (name.now ++ 10 ∷ []))) }
-{
-    append_text(out, "testcase ")?;
-    out.extend_from_slice(name.bytes())?;
-    out.push(b'\n')?;
-    Ok(())
-}
-
 /// Appends the line of an overall verdict; if memory runs out, a part of it.
 pub fn append_verdict(out: &mut Vec<u8>, verdict: Verdict) -> Result<(), NoMemory>
     ensures ok { OnOk result (out.new.items ≡ out.old.items ++ verdict_line verdict) }
     ensures err { OnErr result (StartsWith out.new.items out.old.items) }
 {
-    append_text(out, "verdict ")?;
-    append_text(out, name_of(verdict))?;
-    out.push(b'\n')?;
-    Ok(())
+    append_between(out, "verdict ", name_of(verdict).as_bytes(), "\n")
 }
 
 /// Appends a finished test case.
@@ -187,27 +150,10 @@ pub(crate) fn append_case(out: &mut Vec<u8>, case: &Finished) -> Result<(), NoMe
     ensures { OnOk result (out.new.items ≡ out.old.items ++ case_text case.now) }
 {
     let report = &case.report;
-    append_name(out, &case.name)?;
+    append_between(out, "testcase ", case.name.bytes(), "\n")?;
     append_runs(out, case.names.as_slice(), report.logs.as_slice())?;
     append_locals(out, report.locals.as_slice())?;
     append_verdict(out, report.verdict)
-}
-
-fn append_cases(out: &mut Vec<u8>, cases: &[Finished]) -> Result<(), NoMemory>
-    ensures { OnOk result (out.new.items ≡ out.old.items ++ flat_map case_text cases.now) }
-{
-    for case in cases {
-        append_case(out, case)?;
-    }
-    Ok(())
-}
-
-/// Appends the words, and then the number.
-pub(crate) fn append_count(out: &mut Vec<u8>, words: &str, count: usize) -> Result<(), NoMemory>
-    ensures { OnOk result (out.new.items ≡ out.old.items ++ (words.now ++ decimal count)) }
-{
-    append_text(out, words)?;
-    append_number(out, count as u64)
 }
 
 /// Appends the line of the tally.
@@ -229,9 +175,7 @@ pub fn append_aborted(out: &mut Vec<u8>, name: &Name, why: CaseError) -> Result<
     ensures ok { OnOk result (out.new.items ≡ out.old.items ++ aborted_text name.now why) }
     ensures err { OnErr result (StartsWith out.new.items out.old.items) }
 {
-    append_text(out, "aborted at ")?;
-    out.extend_from_slice(name.bytes())?;
-    append_text(out, ": ")?;
+    append_between(out, "aborted at ", name.bytes(), ": ")?;
     append_text(out, why.text())
 }
 
@@ -240,15 +184,15 @@ pub(crate) fn append_ending(out: &mut Vec<u8>, ending: &CampaignEnd) -> Result<(
     ensures { OnOk result (out.new.items ≡ out.old.items ++ ending_line ending.now) }
 {
     match ending {
-        CampaignEnd::Complete => append_text(out, "complete")?,
+        CampaignEnd::Complete => append_text(out, "complete\n"),
         CampaignEnd::StoppedAfter(name) => {
-            append_text(out, "stopped after ")?;
-            out.extend_from_slice(name.bytes())?;
+            append_between(out, "stopped after ", name.bytes(), "\n")
         }
-        CampaignEnd::Aborted { name, why } => append_aborted(out, name, *why)?,
+        CampaignEnd::Aborted { name, why } => {
+            append_aborted(out, name, *why)?;
+            append_text(out, "\n")
+        }
     }
-    out.push(b'\n')?;
-    Ok(())
 }
 
 // Writes which case was refused, and why, as a line; if the writer fails, a prefix of it.
@@ -296,7 +240,9 @@ pub fn write_text<W: Write>(
     ensures part { IfErr result (λ fault. LeavesPrefix (W.contents writer.old) (W.contents writer.new) (report_text results.now) fault) }
 {
     let mut text = Vec::new(alloc);
-    append_cases(&mut text, results.finished.as_slice())?;
+    for case in results.finished.as_slice() {
+        append_case(&mut text, case)?;
+    }
     append_tally(&mut text, &tally(results))?;
     append_ending(&mut text, &results.ending)?;
     write_made(writer, text.as_slice())
@@ -325,7 +271,8 @@ fn append_run_of(
 {
     match component_of(history, Run(run)) {
         Some(comp) => {
-            append_run_line(out, Run(run), behaviour_of(names, usize::from(run)), comp)?;
+            let name = behaviour_of(names, usize::from(run));
+            append_run_line(out, Run(run), bytes_or(name, b""), comp)?;
             append_part(out, history, run)
         }
         None => Ok(()),
@@ -359,7 +306,7 @@ pub fn append_replayed(
     ensures { OnOk result (out.new.items ≡ out.old.items
         ++ replayed_text summary.now behaviours history.now verdict) }
 {
-    append_name(out, &summary.name)?;
+    append_between(out, "testcase ", summary.name.bytes(), "\n")?;
     append_runs_of(out, summary.names.runs.as_slice(), behaviours, history)?;
     append_locals(out, summary.locals.as_slice())?;
     append_verdict(out, verdict)

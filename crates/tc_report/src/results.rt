@@ -1,6 +1,6 @@
 //! What a campaign hands back: its finished test cases, kept and counted.
-ghost use Rattle.std.specs.{Prelude.{◌≡◌, ◌≤◌, ◌+◌, [], IfOk, IfSome}, Vec.vec_capacity};
-ghost use Rattle.tc_report.specs.{Inside.IsOneMore, Inside.cases_of as spec_cases, Inside.one_if, Inside.tally_with, Observers.Keeps, Report.count_of as spec_count, Report.tally_of_cases};
+ghost use Rattle.std.specs.{Prelude.{◌≡◌, ◌≤◌, ◌+◌, [], IfOk}, Vec.vec_capacity};
+ghost use Rattle.tc_report.specs.{Inside.IsOneMore, Inside.cases_of as spec_cases, Inside.one_if, Observers.Keeps, Report.count_of as spec_count, Report.tally_of_cases};
 
 use crate::observer::Observer;
 use std::alloc::Global;
@@ -119,29 +119,10 @@ fn cases_of(cases: &[Finished], verdict: Verdict) -> usize
     found.count()
 }
 
-// The count, with one more if it is so; none if that is no number of the machine.
-fn count_more(count: usize, more: bool) -> Option<usize>
-    ensures { IfSome result (λ n. n ≡ count + one_if more) }
+fn count_more(count: usize, more: bool) -> Result<usize, NoMemory>
+    ensures { IfOk result (λ n. n ≡ count + one_if more) }
 {
-    if more {
-        count.checked_add(1)
-    } else {
-        Some(count)
-    }
-}
-
-// The tally with one test case more, of this overall verdict; none if a count is no number of the machine.
-fn with_verdict(tally: &Tally, verdict: Verdict) -> Option<Tally>
-    ensures { IfSome result (λ t. t ≡ tally_with tally.now verdict) }
-{
-    Some(Tally {
-        cases: tally.cases.checked_add(1)?,
-        none: count_more(tally.none, verdict == Verdict::None)?,
-        pass: count_more(tally.pass, verdict == Verdict::Pass)?,
-        inconc: count_more(tally.inconc, verdict == Verdict::Inconc)?,
-        fail: count_more(tally.fail, verdict == Verdict::Fail)?,
-        error: count_more(tally.error, verdict == Verdict::Error)?,
-    })
+    count.checked_add(usize::from(more)).ok_or(NoMemory)
 }
 
 /// The tally with this test case more; a count that is no number of the machine is more than there is memory for.
@@ -149,7 +130,15 @@ fn with_verdict(tally: &Tally, verdict: Verdict) -> Option<Tally>
 pub(crate) fn with_case(tally: &Tally, case: &Finished) -> Result<Tally, NoMemory>
     ensures { IfOk result (λ t. IsOneMore tally.now case.now t) }
 {
-    with_verdict(tally, case.report.verdict).ok_or(NoMemory)
+    let verdict = case.report.verdict;
+    Ok(Tally {
+        cases: count_more(tally.cases, true)?,
+        none: count_more(tally.none, verdict == Verdict::None)?,
+        pass: count_more(tally.pass, verdict == Verdict::Pass)?,
+        inconc: count_more(tally.inconc, verdict == Verdict::Inconc)?,
+        fail: count_more(tally.fail, verdict == Verdict::Fail)?,
+        error: count_more(tally.error, verdict == Verdict::Error)?,
+    })
 }
 
 /// The tally of these test cases.

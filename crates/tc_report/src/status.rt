@@ -1,21 +1,26 @@
 //! The exit status, and the stopping rule.
 ghost use Rattle.std.specs.Prelude.{◌≡◌, IsTrue, false, map};
-ghost use Rattle.tc_report.specs.{Observers.IsMet, Status.counted_as as spec_counted, Status.ending_status as spec_ending, Status.results_status, Status.verdict_status as spec_status, Status.worst_of as spec_worst, Summary.case_summary};
+ghost use Rattle.tc_report.specs.{Observers.IsMet, Status.ended as spec_ended, Status.ending_status as spec_ending, Status.results_status, Status.verdict_status as spec_status, Status.worst_of as spec_worst, Summary.case_summary};
 
 use crate::results::{CampaignEnd, CaseEnd, Finished, Results};
 use crate::summary::Summary;
 use tc_entry::Verdict;
-use tc_verdict::worse_of;
+use tc_verdict::{name as name_of, worse_of};
 
-/// The verdict that an end counts as: error for a test case that is not over, is missing, or has no report, and none for
-/// one that was not run.
-pub(crate) fn counted_as(ending: CaseEnd) -> Verdict
-    ensures { result ≡ spec_counted ending }
+/// Of the end of a test case its word, the verdict that it counts as, and what JUnit says of one without a verdict. It
+/// counts as error if it is not over, is missing, or has no report, and as none if it was not run.
+pub(crate) fn ended(ending: CaseEnd) -> (&'static str, Verdict, &'static str)
+    ensures word { result.0.now ≡ (spec_ended ending).0 }
+    ensures verdict { result.1 ≡ (spec_ended ending).1 }
+    ensures message { result.2.now ≡ (spec_ended ending).2 }
 {
+    let error = Verdict::Error;
     match ending {
-        CaseEnd::Over(verdict) => verdict,
-        CaseEnd::NotRun => Verdict::None,
-        CaseEnd::Unfinished | CaseEnd::Aborted(_) | CaseEnd::Missing => Verdict::Error,
+        CaseEnd::Over(verdict) => (name_of(verdict), verdict, ""),
+        CaseEnd::Unfinished => ("unfinished", error, "the test case is not over"),
+        CaseEnd::Aborted(why) => ("aborted", error, why.text()),
+        CaseEnd::Missing => ("missing", error, "there is no history of the test case"),
+        CaseEnd::NotRun => ("notrun", Verdict::None, ""),
     }
 }
 
@@ -35,7 +40,7 @@ fn worst_of(cases: &[Summary]) -> Verdict
 {
     let mut worst = Verdict::None;
     for case in cases {
-        worst = worse_of(worst, counted_as(case.ending));
+        worst = worse_of(worst, ended(case.ending).1);
     }
     worst
 }

@@ -1,8 +1,7 @@
 //! What reports say of a test case.
-ghost use Rattle.std.specs.Prelude.{◌≡◌, ◌++◌, IfOk, OnOk, List, if◌then◌else◌, map, reverse};
+ghost use Rattle.std.specs.Prelude.{◌≡◌, ◌++◌, [], IfOk, OnOk, List, if◌then◌else◌, map, reverse, take};
 ghost use Rattle.tc_rules.specs.Prelude.{Entry as AnyEntry, StandsFor, is_over, overall};
-ghost use Rattle.tc_blocks.specs.declared.header.Kind.{Kind};
-ghost use Rattle.tc_report.specs.{Summary.aborted_summary, Summary.bare_summary as spec_bare, Summary.case_summary, Summary.results_summaries, Summary.said_of as spec_said, Summary.summary_of, Summary.summary_with as spec_with, Summary.waits_if, declared.results.CaseEnd.TheVariants.NotRun};
+ghost use Rattle.tc_report.specs.{InWords.namings_of as spec_namings, Summary.aborted_summary, Summary.bare_summary as spec_bare, Summary.case_summary, Summary.results_summaries, Summary.summary_of, Summary.summary_with as spec_with, Summary.waits_if, declared.results.CaseEnd.TheVariants.NotRun};
 
 use crate::blocks::first_names;
 use crate::cause::{Cause, cause_of};
@@ -127,7 +126,10 @@ pub fn summary_of_state(
 
 // What evidence of a finished test case says next to its entries.
 fn said_of(alloc: Global, case: &Finished) -> Result<Said, NoMemory>
-    ensures { IfOk result (λ said. said ≡ spec_said Kind.Evidence case.now) }
+    ensures { IfOk result (λ said. said ≡ record {
+      names = spec_namings (take case.now.report.behaviours case.now.names);
+      remarks = [];
+    }) }
 {
     let given = first_names(case.names.as_slice(), case.report.behaviours);
     let names = namings_of(alloc, given)?;
@@ -174,15 +176,6 @@ pub(crate) fn summaries_of_cases(
     Ok(summaries)
 }
 
-fn add_unrun(alloc: Global, summaries: &mut Vec<Summary>, names: &[Name]) -> Result<(), NoMemory>
-    ensures { OnOk result (summaries.new.items ≡ summaries.old.items ++ map (spec_bare NotRun) names.now) }
-{
-    for name in names {
-        summaries.push(bare_summary(alloc, CaseEnd::NotRun, name))?;
-    }
-    Ok(())
-}
-
 /// The summaries of the results of a campaign of test cases with these names: of each finished test case, of the one that
 /// has no report, and of those after them, which were not run. Without the names they are left out.
 #[tactic(auto, using(std::proofs::lemmas::List::drop_min))]
@@ -195,7 +188,9 @@ pub fn summaries_of_results(
 {
     let mut summaries = summaries_of_cases(alloc, results.finished.as_slice())?;
     add_aborted(&mut summaries, &results.ending)?;
-    let unrun = &names[summaries.len().min(names.len())..];
-    add_unrun(alloc, &mut summaries, unrun)?;
+    let begun = summaries.len().min(names.len());
+    for name in &names[begun..] {
+        summaries.push(bare_summary(alloc, CaseEnd::NotRun, name))?;
+    }
     Ok(summaries)
 }

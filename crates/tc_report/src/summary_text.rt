@@ -1,31 +1,34 @@
 //! The summary of test cases, a page for a person.
-ghost use Rattle.std.specs.{Prelude.{◌≡◌, ◌++◌, ◌∷◌, [], IfOk, OnOk, codes, filter, map, take}, List.flat_map};
+ghost use Rattle.std.specs.{Prelude.{◌≡◌, ◌==◌, ◌++◌, ◌∷◌, [], IfOk, OnOk, codes, filter, if◌then◌else◌, map, take}, Fmt.decimal, List.flat_map};
 ghost use Rattle.tc_report.specs.{Cause.decided_text, Inside.IsNext, Inside.has_failed, Inside.is_shown, Inside.member_text as spec_member, Inside.members as spec_members, Inside.numbers_with};
 ghost use Rattle.tc_report.specs.SummaryText as spec;
 
 use crate::cause::{Cause, append_decision};
 use crate::naming::{Names, append_named_entries, append_place};
-use crate::records::end_word;
-use crate::report::{append_count, append_tally};
+use crate::output::{append_between, append_count};
+use crate::report::append_tally;
 use crate::results::{CaseEnd, Tally};
-use crate::status::{counted_as, verdict_status};
+use crate::status::{ended, verdict_status};
 use crate::summary::Summary;
 use std::alloc::Global;
 use tc_entry::{Entry, Name, NoMemory, Reply, Verdict};
 use tc_text::append_text;
 use tc_verdict::name as name_of;
 
-fn ended(cases: &[Summary], word: &str) -> usize
+fn ended_so(cases: &[Summary], word: &str) -> usize
     ensures { result ≡ spec.ended_so word.now cases.now }
 {
-    let found = cases.iter().filter(|case| end_word(case.ending) == word);
-    found.count()
+    cases
+        .iter()
+        .filter(|case| ended(case.ending).0 == word)
+        .count()
 }
 
 fn append_other(out: &mut Vec<u8>, word: &str, cases: &[Summary]) -> Result<(), NoMemory>
-    ensures { OnOk result (out.new.items ≡ out.old.items ++ spec.other_line word.now cases.now) }
+    ensures { OnOk result (out.new.items ≡ out.old.items ++ (if spec.ended_so word.now cases.now == 0 then []
+        else word.now ++ (codes " " ++ (decimal (spec.ended_so word.now cases.now) ++ 10 ∷ [])))) }
 {
-    let count = ended(cases, word);
+    let count = ended_so(cases, word);
     if count == 0 {
         return Ok(());
     }
@@ -40,11 +43,11 @@ fn append_counts(out: &mut Vec<u8>, cases: &[Summary]) -> Result<(), NoMemory>
 {
     let tally = Tally {
         cases: cases.len(),
-        none: ended(cases, "none"),
-        pass: ended(cases, "pass"),
-        inconc: ended(cases, "inconc"),
-        fail: ended(cases, "fail"),
-        error: ended(cases, "error"),
+        none: ended_so(cases, "none"),
+        pass: ended_so(cases, "pass"),
+        inconc: ended_so(cases, "inconc"),
+        fail: ended_so(cases, "fail"),
+        error: ended_so(cases, "error"),
     };
     append_tally(out, &tally)?;
     append_other(out, "unfinished", cases)?;
@@ -128,9 +131,7 @@ fn append_members(
         return Ok(());
     };
     let text = member_text(*out.allocator(), names, *first)?;
-    append_text(out, "  ")?;
-    append_text(out, name_of(verdict))?;
-    append_text(out, ": ")?;
+    append_between(out, "  ", name_of(verdict).as_bytes(), ": ")?;
     out.extend_from_slice(text.as_slice())?;
     append_listed(out, names, 67usize.saturating_sub(text.len()), others)
 }
@@ -215,10 +216,7 @@ fn append_why(out: &mut Vec<u8>, case: &Summary) -> Result<(), NoMemory>
 {
     match (case.ending, &case.cause) {
         (CaseEnd::Over(_), Some(cause)) => append_decided(out, case, cause),
-        (CaseEnd::Aborted(why), _) => {
-            let text = format!(in *out.allocator(); "  {}\n", why.text())?;
-            append_text(out, text.as_str())
-        }
+        (CaseEnd::Aborted(why), _) => { append_between(out, "  ", why.text().as_bytes(), "\n") }
         _ => Ok(()),
     }
 }
@@ -227,24 +225,11 @@ fn append_why(out: &mut Vec<u8>, case: &Summary) -> Result<(), NoMemory>
 fn append_failed(out: &mut Vec<u8>, case: &Summary) -> Result<(), NoMemory>
     ensures { OnOk result (out.new.items ≡ out.old.items ++ spec.shown_case case.now) }
 {
-    append_text(out, "\n")?;
-    out.extend_from_slice(case.name.bytes())?;
-    append_text(out, ": ")?;
-    append_text(out, end_word(case.ending))?;
+    append_between(out, "\n", case.name.bytes(), ": ")?;
+    append_text(out, ended(case.ending).0)?;
     append_text(out, "\n")?;
     append_why(out, case)?;
     append_locals(out, case.names.comps.as_slice(), case.locals.as_slice())
-}
-
-fn append_all_failed(out: &mut Vec<u8>, cases: &[Summary]) -> Result<(), NoMemory>
-    ensures { OnOk result (out.new.items ≡ out.old.items ++ flat_map spec.shown_case (filter has_failed cases.now)) }
-{
-    for case in cases {
-        if verdict_status(counted_as(case.ending)) > 0 {
-            append_failed(out, case)?;
-        }
-    }
-    Ok(())
 }
 
 /// The summary of these test cases, a page for a person: their counts, and then each that failed. It has what decided its
@@ -254,6 +239,10 @@ pub fn summary_report(alloc: Global, cases: &[Summary]) -> Result<Vec<u8>, NoMem
 {
     let mut out = Vec::new(alloc);
     append_counts(&mut out, cases)?;
-    append_all_failed(&mut out, cases)?;
+    for case in cases {
+        if verdict_status(ended(case.ending).1) > 0 {
+            append_failed(&mut out, case)?;
+        }
+    }
     Ok(out)
 }

@@ -2,7 +2,7 @@
 use Rattle.std.{proofs.{Common.{ℕ, ◌≡◌, ◌∙◌, ◌+◌, arith, Bool, true, false, List, [], ◌∷◌, ◌++◌, Option, Some, None, Result, Ok, Err, OnOk, OnErr, codes, filter, if◌then◌else◌, length, refl, sym, ap, ap₂, subst, append_assoc, map, reverse, take}, lemmas.List.{Concat.flat_map-append, Elements.filter-append, append-nil}}, specs.{Io.KnownBytes.{Appends, Keeps}, List.{AllZip, enumerate_from, flat_map}}}
 use Rattle.tc_stream.specs.Prelude.{AppendsPrefix}
 use Rattle.tc_blocks.specs.{Prelude.entries_of, declared.{block.Block.Block, header.Kind.Kind, line.Line.Line}}
-use Rattle.tc_report.{specs.{Inside.{IsEndedAt, IsOneMore, IsSoFar, again_by, namings, said_with}, Observers.{AreTaken, KeepsTimes}, Progress.{HasTold, AreLinesOf, IsToldBy, TellsProgress, after_verdict, again_lines, begun_text, closing_lines, finished_line, finished_text, is_failure, last_line}, Report.tally_of_cases, Blocks.{block_names, name_lines}, Said.{named_in, remarks_from, said_in}, Summary.{IsBlockOf, SummariesOfBlocks, block_summary, said_of, summary_of, written_summary}, declared.{fault.OutFault.OutFault, progress.{Progress.Progress, Shown.Shown}, results.{CaseEnd.CaseEnd, Finished.Finished, Tally.Tally}, naming.Naming.Naming, said.{Remark.Remark, Said.Said}}}, proofs.Writing.{appends_both, prefix_behind, prefix_longer}}
+use Rattle.tc_report.{specs.{Inside.{IsEndedAt, IsOneMore, IsSoFar, after_verdict, again_by, namings, said_with}, Observers.{AreTaken, KeepsTimes}, Progress.{HasTold, AreLinesOf, IsToldBy, TellsProgress, again_lines, begun_text, closing_lines, finished_line, finished_text, is_failure, last_line}, Report.tally_of_cases, Blocks.{block_names, name_lines}, InWords.namings_of, Said.{named_in, remarks_from, said_in}, Summary.{IsBlockOf, SummariesOfBlocks, block_summary, summary_of, written_summary}, declared.{fault.OutFault.OutFault, progress.{Progress.Progress, Shown.Shown}, results.{CaseEnd.CaseEnd, Finished.Finished, Tally.Tally}, naming.Naming.Naming, said.{Remark.Remark, Said.Said}}}, proofs.Writing.{appends_both, prefix_behind, prefix_longer}}
 use Rattle.tc_rules.specs.Prelude.{Entry, is_over, overall}
 
 nothing : (o : Option (List ℕ)) → Appends o o []
@@ -259,6 +259,10 @@ said_mk names remarks = record { names = names; remarks = remarks }
 said_so : (run : ℕ) (names : List (List ℕ)) (es : List Entry)
     → said_in (namings run names ++ map Line.Entry es) ≡ said_mk (map (λ p. record { run = p.0; name = p.1 }) (enumerate_from run names)) []
 said_so run names es = ap₂ said_mk (named_all run names es) (no_remarks 0 run names es)
+
+-- what such a block of a finished test case says
+abbrev said_of : Kind → Finished → Said
+said_of kind f = said_mk (namings_of (block_names kind f)) []
 
 said_written : (kind : Kind) (f : Finished) → said_in (name_lines (block_names kind f) ++ map Line.Entry f.report.history) ≡ said_of kind f
 said_written Kind.Evidence f = said_so 0 (take f.report.behaviours f.names) f.report.history

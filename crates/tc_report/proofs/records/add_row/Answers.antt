@@ -2,7 +2,7 @@ use Rattle.std.{proofs.Common.{◌≢◌, ◌∷◌, [], length}, specs.Fmt.deci
 use Rattle.csv.specs.Writing.{writer_setup}
 use Rattle.csv.specs.declared.writer.QuoteStyle.TheVariants as style
 use Rattle.tc_rules.specs.Prelude.{Verdict}
-use Rattle.tc_report.{specs.{Csv.end_word, Report.count_of}, proofs.Plain.{fields-unquoted, row_text-unquoted}}
+use Rattle.tc_report.{specs.{Report.count_of, Status.ended}, proofs.Plain.{fields-unquoted, row_text-unquoted}}
 use Rattle.tc_report.proofs.records.add_row.Goals as goal
 
 pub returns-in-Ok-clause-written : goal.returns-in-Ok-clause-written
@@ -11,6 +11,6 @@ returns-in-Ok-clause-written c =
     let s = c.args.case.now in
     let locals = s.locals in
     let others = decimal (count_of Verdict.None locals) ∷ decimal (count_of Verdict.Pass locals) ∷ decimal (count_of Verdict.Inconc locals) ∷
-    decimal (count_of Verdict.Fail locals) ∷ decimal (count_of Verdict.Error locals) ∷ end_word s.ending ∷ [] in
+    decimal (count_of Verdict.Fail locals) ∷ decimal (count_of Verdict.Error locals) ∷ (ended s.ending).0 ∷ [] in
     let row = row_text-unquoted s.name (decimal (length locals)) others (fields-unquoted s c.in_ok-push_fields.ensures.name c.in_ok-push_fields.ensures.digits) in
     rw (c.requires.setup, c.in_ok-push_fields.ensures.fields, row) at (c.in-Ok.ensures.bytes c.requires.fields c.requires.wrote plain)

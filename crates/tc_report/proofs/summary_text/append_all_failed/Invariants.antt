@@ -1,6 +1,0 @@
-use Rattle.std.{proofs.Common.{◌≡◌, ◌++◌, filter, take}, specs.List.flat_map}
-use Rattle.tc_report.specs.{Inside.has_failed, SummaryText.shown_case}
-use Rattle.tc_report.proofs.summary_text.append_all_failed.Given as goal
-
-abbrev pub invariant-loop-case : goal.invariant-loop-case
-invariant-loop-case l = l.out.items ≡ l.fn.out.items ++ flat_map shown_case (filter has_failed (take l.case-index l.cases))
