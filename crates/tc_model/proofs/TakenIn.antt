@@ -1,10 +1,10 @@
 -- The runs that lack a component, and what runs are given once they are known.
-use Rattle.std.proofs.Common.{ℕ, zero, suc, ◌≡◌, ◌<◌, ◌||◌, ◌∙◌, if◌then◌else◌, Bool, true, false, Option, Some, None, List, [], ◌∷◌, get_or, length, map, nat_le, nat_lt, ap, arith, inl, inr, refl, sym}
+use Rattle.std.proofs.Common.{ℕ, zero, suc, ◌≡◌, ◌<◌, ◌||◌, ◌∙◌, if◌then◌else◌, Bool, true, false, Option, Some, None, List, [], ◌∷◌, fold, get_or, length, map, nat_le, nat_lt, ap, arith, inl, inr, refl, sym}
 use Rattle.std.proofs.lemmas.List.Elements.{All-cons, All-head, All-nil, All-tail, All-take, All-weaker}
 use Rattle.std.specs.{Global.Vec, List.{All, filter, list_any}}
 use Rattle.tc_entry.specs.declared.limits.TheConstants.{ARGUMENTS}
-use Rattle.tc_rules.specs.Prelude.{Comp, Entry, Run, names}
-use Rattle.tc_model.specs.{Inside.{AreAllGiven, AreLacks, AreStartedWith, AreStarts, AreWays, AreWithin, IsStart, IsTaken, given_in, is_given_many, some_lack}, Naming.{given_to, is_run_in, lacking, starters, starts}, Reasons.some_lacking, declared.{given.{Lack.Lack, Start.Start, Starter.Starter, Ways.Ways}, reason.Reason.Reason}}
+use Rattle.tc_rules.specs.Prelude.{Comp, Entry, Run, add_new, names}
+use Rattle.tc_model.specs.{Inside.{AreAllGiven, AreLacks, AreStartedWith, AreStarts, AreWays, AreWithin, IsStart, IsTaken, given_in, is_given_many, is_run_in, some_lack}, Naming.{given_to, lacking, starters}, Reasons.some_lacking, declared.{given.{Lack.Lack, Start.Start, Starter.Starter, Ways.Ways}, reason.Reason.Reason}}
 
 -- ---- runs that lack a component are runs of the case
 
@@ -51,28 +51,35 @@ some_same : (test : ℕ → Starter → Bool) (past : List Entry) (e : Entry) (a
 some_same test past e all is =
     some_by test past e.caller.0 all is.runs ∙ ap (list_any (λ c. list_any (test c.0) (lacking past e.caller.0 c.0))) is.comps
 
--- those that run a lacks if run b names them
-lacked_by : (past : List Entry) (b a : ℕ) (all : List Lack) → All (λ l. l.runs.items ≡ lacking past b l.comp.0) all →
-    map (λ l. l.comp.0) (filter (λ l. is_run_in l.runs.items a) all) ≡ filter (λ c. is_run_in (lacking past b c) a) (map (λ c. c.0) (map (λ l. l.comp) all))
-lacked_by past b a [] runs = refl
-lacked_by past b a (l ∷ all) runs =
+-- what a run is given of those that it lacks if run b names them
+lacked_by : (past : List Entry) (b a : ℕ) (all : List Lack) (given : List ℕ) → All (λ l. l.runs.items ≡ lacking past b l.comp.0) all →
+    fold (λ cs l. add_new (Some l.comp) cs) given (filter (λ l. is_run_in l.runs.items a) all)
+    ≡ fold (λ cs c. add_new (Some c) cs) given (filter (λ c. is_run_in (lacking past b c.0) a) (map (λ l. l.comp) all))
+lacked_by past b a [] given runs = refl
+lacked_by past b a (l ∷ all) given runs =
     by_test (is_run_in l.runs.items a) (is_run_in (lacking past b l.comp.0) a)
     (ap (λ rs. is_run_in rs a) (All-head (λ (k : Lack). k.runs.items ≡ lacking past b k.comp.0) l all runs))
-    (filter (λ k. is_run_in k.runs.items a) all) (filter (λ c. is_run_in (lacking past b c) a) (map (λ c. c.0) (map (λ k. k.comp) all)))
-    (lacked_by past b a all (All-tail (λ (k : Lack). k.runs.items ≡ lacking past b k.comp.0) l all runs))
+    (λ cs. lacked_by past b a all cs (All-tail (λ (k : Lack). k.runs.items ≡ lacking past b k.comp.0) l all runs))
   where
-    by_test : (t u : Bool) → t ≡ u → (ls : List Lack) (cs : List ℕ) → map (λ k. k.comp.0) ls ≡ cs →
-        map (λ k. k.comp.0) (if t then l ∷ ls else ls) ≡ (if u then l.comp.0 ∷ cs else cs)
-    by_test true true k ls cs rest = ap (λ ds. l.comp.0 ∷ ds) rest
-    by_test false false k ls cs rest = rest
-    by_test true false k ls cs rest = absurd cc
-    by_test false true k ls cs rest = absurd cc
+    left : List Lack
+    left = filter (λ k. is_run_in k.runs.items a) all
+
+    named : List Comp
+    named = filter (λ c. is_run_in (lacking past b c.0) a) (map (λ k. k.comp) all)
+
+    by_test : (t u : Bool) → t ≡ u → ((cs : List ℕ) → fold (λ cs k. add_new (Some k.comp) cs) cs left ≡ fold (λ cs c. add_new (Some c) cs) cs named) →
+        fold (λ cs k. add_new (Some k.comp) cs) given (if t then l ∷ left else left) ≡ fold (λ cs c. add_new (Some c) cs) given (if u then l.comp ∷ named else named)
+    by_test true true k rest = rest (add_new (Some l.comp) given)
+    by_test false false k rest = rest given
+    by_test true false k rest = absurd cc
+    by_test false true k rest = absurd cc
 
 -- the same of those that an entry names
-lacked_same : (past : List Entry) (e : Entry) (a : ℕ) (all : List Lack) → AreLacks past e all →
-    map (λ l. l.comp.0) (filter (λ l. is_run_in l.runs.items a) all) ≡ filter (λ c. is_run_in (lacking past e.caller.0 c) a) (map (λ c. c.0) (names e.op))
-lacked_same past e a all is =
-    lacked_by past e.caller.0 a all is.runs ∙ ap (λ cs. filter (λ c. is_run_in (lacking past e.caller.0 c) a) (map (λ c. c.0) cs)) is.comps
+lacked_same : (past : List Entry) (e : Entry) (a : ℕ) (all : List Lack) (given : List ℕ) → AreLacks past e all →
+    fold (λ cs l. add_new (Some l.comp) cs) given (filter (λ l. is_run_in l.runs.items a) all)
+    ≡ fold (λ cs c. add_new (Some c) cs) given (filter (λ c. is_run_in (lacking past e.caller.0 c.0) a) (names e.op))
+lacked_same past e a all given is =
+    lacked_by past e.caller.0 a all given is.runs ∙ ap (λ cs. fold (λ ds c. add_new (Some c) ds) given (filter (λ c. is_run_in (lacking past e.caller.0 c.0) a) cs)) is.comps
 
 -- ---- one more entry
 
@@ -94,7 +101,7 @@ ways_after n past e lacks old new before mid was begin same is all starting with
           let in_old : b < length before = omega arith in
           let in_mid : b < length mid = omega arith in
           let here : given_in before b ≡ given_to past b = rw begin (was.given b within) in
-          with.each b in_mid ∙ rw (all.each b in_old, lacked_same past e b lacks is, here) refl;
+          with.each b in_mid ∙ rw (all.each b in_old, lacked_same past e b lacks (given_in before b) is, here) refl;
     }
 
 -- whether a run that lacks a component is given too much

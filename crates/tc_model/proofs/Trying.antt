@@ -1,7 +1,7 @@
 -- What comes of blocks, one after the other.
 use Rattle.std.proofs.Common.{ℕ, ◌≤◌, append-nil, drop, length, take, ◌++◌, ◌≡◌, ◌+◌, ◌∙◌, if◌then◌else◌, is_some, List, [], ◌∷◌, map, refl, subst, sym, ap}
 use Rattle.std.proofs.lemmas.List.{drop_all, take_all}
-use Rattle.tc_model.specs.{Models.{AreTried, IsTried, unread, written}, declared.models.Attempt.Attempt}
+use Rattle.tc_model.specs.{Inside.unread, Models.{AreTried, IsTried, written}, declared.models.Attempt.Attempt}
 
 -- blocks one after the other, the first after that many that have a model; then as many have one as the last number says
 abbrev pub AreTriedTo : ℕ → List Attempt → ℕ → Type 0

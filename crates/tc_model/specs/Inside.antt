@@ -1,14 +1,18 @@
 -- What the functions inside say.
-use Rattle.std.specs.{Prelude.{ℕ, ◌≡◌, ◌==◌, ◌<◌, ◌&&◌, if◌then◌else◌, not, Bool, false, true, Option, Some, None, IfSome, Result, Ok, Err, is_some, List, [], ◌∷◌, All, filter, length, map, nat_lt, slice_index_or}, List.{AllZip, list_any}, Option.option_map_or, Global.Vec}
+use Rattle.std.specs.{Prelude.{ℕ, ◌≡◌, ◌==◌, ◌<◌, if◌then◌else◌, Bool, true, Option, Some, None, Result, Ok, Err, is_some, List, [], ◌∷◌, All, filter, fold, length, map, nat_lt, slice_index_or, unwrap_or}, List.{AllZip, list_any}, Option.option_map_or, Global.Vec}
 use Rattle.tc_entry.specs.declared.limits.TheConstants.{ARGUMENTS}
-use Rattle.tc_rules.specs.Prelude.{Case, Comp, Entry, Op, Run, Verdict, answer, is_parked, is_wake, names, past_of, start}
+use Rattle.tc_rules.specs.Prelude.{Case, Comp, Entry, Run, Verdict, add_new, answer, names, past_of, start}
 use Rattle.tc_course.specs.Prelude.{stand}
 use Rattle.tc_reader.specs.Prelude.{CampaignView}
-use Rattle.tc_model.specs.{Models.{IsModel, written}, Naming.{add_each, add_one, given_to, is_run_in, lacking, starters, starts}, Reasons.{CanCall, EndHas, EntryHas, IsFirstOf, line_reasons}, declared.{given.{Lack.Lack, Start.Start, Starter.Starter, Ways.Ways}, models.Attempt.Attempt, reason.Reason.Reason}}
+use Rattle.tc_model.specs.{Models.{IsModel, of_block, written}, Naming.{given_to, lacking, starters, starts}, Reasons.{CanCall, EndHas, EntryHas, IsFirstOf, line_reasons}, declared.{given.{Lack.Lack, Start.Start, Starter.Starter, Ways.Ways}, models.Attempt.Attempt, reason.Reason.Reason}}
 
 -- the test cases are those that are left, after the block's model if the block is not refused
 abbrev pub TakesModel : Attempt → CampaignView → CampaignView → Type 0
 TakesModel a old new = (rest : List Attempt) → AllZip IsModel (written rest) new → AllZip IsModel (written (a ∷ rest)) old
+
+-- the attempt; if its block was not refused it is, because what was written is not read
+abbrev pub unread : Attempt → Attempt
+unread a = record a { refusal = Some (unwrap_or a.refusal (of_block a.block Reason.NotRead)) }
 
 -- ---- what runs are given
 
@@ -53,14 +57,18 @@ some_lack test all = list_any (λ l. list_any (test l.comp.0) l.runs.items) all
 abbrev pub AreWithin : ℕ → List Lack → Type 0
 AreWithin n all = All (λ l. All (λ s. s.run.0 < n) l.runs.items) all
 
+-- run b is one of these
+abbrev pub is_run_in : List Starter → ℕ → Bool
+is_run_in runs b = list_any (λ s. s.run.0 == b) runs
+
 -- each of these runs is given the component, and no other run anything
-pub record AreGiven (c : ℕ) (runs : List Starter) (before after : List (Vec Comp)) : Type 0 where
-  pub each : (b : ℕ) → b < length before → given_in after b ≡ (if is_run_in runs b then add_one c (given_in before b) else given_in before b)
+pub record AreGiven (c : Comp) (runs : List Starter) (before after : List (Vec Comp)) : Type 0 where
+  pub each : (b : ℕ) → b < length before → given_in after b ≡ (if is_run_in runs b then add_new (Some c) (given_in before b) else given_in before b)
 
 -- each run is given the components that it lacks
 pub record AreAllGiven (all : List Lack) (before after : List (Vec Comp)) : Type 0 where
   pub each : (b : ℕ) → b < length before →
-      given_in after b ≡ add_each (map (λ l. l.comp.0) (filter (λ l. is_run_in l.runs.items b) all)) (given_in before b)
+      given_in after b ≡ fold (λ given l. add_new (Some l.comp) given) (given_in before b) (filter (λ l. is_run_in l.runs.items b) all)
 
 -- run r is given only these components, and the others what they were given
 abbrev pub IsGivenOnly : ℕ → List Comp → List (Vec Comp) → List (Vec Comp) → Type 0
@@ -79,16 +87,6 @@ IsTaken n past e w None =
 IsTaken n past e w (Some r) = IsFirstOf (Reason.NotGiven ∷ Reason.ManyArguments ∷ []) (EntryHas n past e) r
 
 -- ---- lines
-
--- the caller runs, and the wake that is due is this call, or none is due
-pub record IsDue (past : List Entry) (e : Entry) : Type 0 where
-  pub runs : (is_some (stand past e.caller.0).comp && not (stand past e.caller.0).left) ≡ true
-  pub due : (stand past e.caller.0).wake ≡ (if is_wake e.op then Some e.op else None)
-  pub not_idle : (is_parked e.reply && is_wake e.op) ≡ false
-
--- the operation starts none but one of n runs, and gives run 0 nothing
-abbrev pub IsStartAmong : ℕ → Op → Type 0
-IsStartAmong n op = IfSome (start op) (λ s. (s.0.0 < n) × (s.0.0 ≡ 0 → s.2 ≡ []))
 
 -- the entry is the table's, and one that a behaviour can call; or the first reason why not
 abbrev pub IsCallFault : ℕ → List Entry → Entry → Option Reason → Type 0

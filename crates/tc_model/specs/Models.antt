@@ -1,21 +1,18 @@
 -- The models of blocks: scripts of which they are complete courses; and what is said of a block that has none.
-use Rattle.std.specs.Prelude.{ℕ, ◌≡◌, ◌<◌, ◌≤◌, ◌+◌, ◌⊎◌, if◌then◌else◌, Option, Some, None, is_some, Ok, List, [], ◌∷◌, ◌++◌, codes, map, unwrap_or}
-use Rattle.std.specs.{Fmt.decimal, List.AllZip, Option.option_map_or}
+use Rattle.std.specs.Prelude.{ℕ, ◌≡◌, ◌<◌, ◌≤◌, ◌+◌, ◌⊎◌, if◌then◌else◌, Option, Some, is_some, Ok, List, [], ◌∷◌, ◌++◌, codes, map, unwrap_or}
+use Rattle.std.specs.{Fmt.decimal, List.AllZip, Option.{MatchOption, option_map_or}}
 use Rattle.tc_blocks.specs.declared.block.Block.{Block}
 use Rattle.tc_blocks.specs.Prelude.{entries_of}
 use Rattle.tc_course.specs.Prelude.{IsShown}
 use Rattle.tc_step.specs.Prelude.{ScriptView}
 use Rattle.tc_rules.specs.Prelude.{IsBehaviours}
 use Rattle.tc_reader.specs.{Prelude.{CampaignView, Word, campaign}, declared.counts.TheConstants.{TEST_CASES}}
-use Rattle.tc_model.specs.{Reasons.{IsFirstFault, IsFree}, declared.{models.Attempt.Attempt, reason.Reason.Reason, reason.Refusal.Refusal}}
+use Rattle.tc_model.specs.{Reasons.{Has, IsFirstFault}, declared.{models.Attempt.Attempt, reason.Reason.Reason, reason.Refusal.Refusal}}
 
--- the block is a complete course of these scripts, with its verdict; it may have more behaviours, and leave out last arguments of starts
-abbrev pub IsModelBy : Block → List ScriptView → Type 0
-IsModelBy b scripts = IsShown scripts b.header.behaviours (entries_of b.lines) b.verdict
-
--- the same of the scripts of a test case
+-- the block is a complete course of the scripts of this test case, with its verdict; it may have more behaviours, and leave out last
+-- arguments of starts
 abbrev pub IsModel : Block → Word × List (Word × ScriptView) → Type 0
-IsModel b c = IsModelBy b (map (λ s. s.1) c.1)
+IsModel b c = IsShown (map (λ s. s.1) c.1) b.header.behaviours (entries_of b.lines) b.verdict
 
 -- the blocks that are not refused
 abbrev pub written : List Attempt → List Block
@@ -32,34 +29,27 @@ of_block b reason = record { line = b.first_line; reason = reason }
 
 -- each line of the block is one that a script can bring
 abbrev pub IsFollowed : Block → Type 0
-IsFollowed b = (at : ℕ) → IsFree b at
+IsFollowed b = (at : ℕ) (r : Reason) → Has b at r → ⊥
 
--- what comes of a block for whose test case and behaviours there is room: it is refused for its first fault; if it has none, at most
--- because the script would be too long
-abbrev pub IsOutcome : Block → Option Refusal → Type 0
-IsOutcome b None = IsFollowed b
-IsOutcome b (Some r) = IsFirstFault b r ⊎ ((r ≡ of_block b Reason.LongScript) × IsFollowed b)
-
--- what comes of a block after that many that have a model
+-- What comes of a block after that many that have a model. If there is room for its test case and its behaviours, it is refused for its
+-- first fault; if it has none, at most because the script would be too long.
 abbrev pub IsTried : ℕ → Block → Option Refusal → Type 0
 IsTried models b o =
     ((TEST_CASES ≤ models) × (o ≡ Some (of_block b Reason.ManyCases)))
     ⊎ ((models < TEST_CASES) × (IsBehaviours b.header.behaviours → ⊥) × (o ≡ Some (of_block b Reason.ManyBehaviours)))
-    ⊎ ((models < TEST_CASES) × IsBehaviours b.header.behaviours × IsOutcome b o)
+    ⊎ ((models < TEST_CASES) × IsBehaviours b.header.behaviours × MatchOption o (IsFollowed b) (λ r.
+    IsFirstFault b r ⊎ ((r ≡ of_block b Reason.LongScript) × IsFollowed b)))
 
 -- the same of blocks one after the other, the first after that many that have a model
 abbrev pub AreTried : ℕ → List Attempt → Type 0
 AreTried models [] = Unit {0}
 AreTried models (a ∷ attempts) = IsTried models a.block a.refusal × AreTried (if is_some a.refusal then models else models + 1) attempts
 
--- the attempt; if its block was not refused it is, because what was written is not read
-abbrev pub unread : Attempt → Attempt
-unread a = record a { refusal = Some (unwrap_or a.refusal (of_block a.block Reason.NotRead)) }
-
 -- Each block that has a fault is refused for its first one. All others have a model, except those for which a script has no room;
 -- or none has, because what was written is not read as their models.
 abbrev pub AreAttempts : List Attempt → Type 0
-AreAttempts attempts = (tried : List Attempt) × AreTried 0 tried × ((attempts ≡ tried) ⊎ (attempts ≡ map unread tried))
+AreAttempts attempts = (tried : List Attempt) × AreTried 0 tried
+    × ((attempts ≡ tried) ⊎ (attempts ≡ map {A = Attempt} (λ a. record a { refusal = Some (unwrap_or a.refusal (of_block a.block Reason.NotRead)) }) tried))
 
 -- the words for a reason
 abbrev pub reason_text : Reason → List ℕ
@@ -74,10 +64,7 @@ reason_text Reason.ManyCases = codes "too many test cases"
 reason_text Reason.LongScript = codes "too long a script"
 reason_text Reason.NotRead = codes "not read as its model"
 
--- the line for a block of this name that has no model
-abbrev pub refusal_line : Word → Refusal → List ℕ
-refusal_line name r = codes "ttrun: line " ++ (decimal r.line ++ (codes ": no model of " ++ (name ++ (codes ": " ++ (reason_text r.reason ++ (10 ∷ []))))))
-
--- the line for a block, if it is refused
+-- the line for a block, if it has no model
 abbrev pub attempt_note : Attempt → List ℕ
-attempt_note a = option_map_or (refusal_line a.block.header.name) a.refusal []
+attempt_note a = option_map_or (λ r. codes "ttrun: line " ++ (decimal r.line ++ (codes ": no model of "
+    ++ (a.block.header.name ++ (codes ": " ++ (reason_text r.reason ++ (10 ∷ []))))))) a.refusal []

@@ -1,7 +1,7 @@
 -- What a run of a model can name, and what it must be given for that. As in the component table's definitions `past` lists
 -- entries, the newest first, and components and runs are numbers.
-use Rattle.std.specs.{Prelude.{ℕ, ◌==◌, ◌&&◌, ◌||◌, ◌++◌, not, if◌then◌else◌, Bool, is_some, List, [], ◌∷◌, filter, map, take_while}, List.list_any, Option.option_map_or}
-use Rattle.tc_rules.specs.Prelude.{Entry, components, is_comp, is_in, names, start}
+use Rattle.std.specs.{Prelude.{ℕ, ◌==◌, ◌&&◌, ◌||◌, not, if◌then◌else◌, Bool, Some, is_some, List, [], ◌∷◌, filter, fold, map, take_while}, List.list_any, Option.option_map_or}
+use Rattle.tc_rules.specs.Prelude.{Entry, add_new, components, is_comp, is_in, names, start}
 use Rattle.tc_course.specs.Prelude.{stand}
 use Rattle.tc_model.specs.declared.given.Starter.{Starter}
 
@@ -23,22 +23,10 @@ starters (e ∷ past) b =
 abbrev pub lacking : List Entry → ℕ → ℕ → List Starter
 lacking past b c = take_while (λ s. not (can_name past s.run.0 c)) (starters past b)
 
--- run b is one of these
-abbrev pub is_run_in : List Starter → ℕ → Bool
-is_run_in runs b = list_any (λ s. s.run.0 == b) runs
-
--- the numbers with one more, unless it is among them
-abbrev pub add_one : ℕ → List ℕ → List ℕ
-add_one d cs = if is_in d cs then cs else cs ++ d ∷ []
-
--- the numbers with each of these that is not among them
-abbrev pub add_each : List ℕ → List ℕ → List ℕ
-add_each [] cs = cs
-add_each (d ∷ ds) cs = add_each ds (add_one d cs)
-
 -- what run b is given: its arguments, and then each component that it lacks when it, or a run below it, names it
 abbrev pub given_to : List Entry → ℕ → List ℕ
 given_to [] b = []
 given_to (e ∷ past) b =
     if starts past e b then map (λ c. c.0) (option_map_or (λ s. s.2) (start e.op) [])
-    else add_each (filter (λ c. is_run_in (lacking past e.caller.0 c) b) (map (λ c. c.0) (names e.op))) (given_to past b)
+    else fold (λ given c. add_new (Some c) given) (given_to past b)
+    (filter (λ c. list_any (λ s. s.run.0 == b) (lacking past e.caller.0 c.0)) (names e.op))

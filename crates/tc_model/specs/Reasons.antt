@@ -1,5 +1,5 @@
 -- Why a block has no model: its first line that no script can bring, and what is the matter with it.
-use Rattle.std.specs.{Prelude.{ℕ, ◌≡◌, ◌≢◌, ◌<◌, ◌≤◌, ◌+◌, ◌&&◌, ◌||◌, ◌⊎◌, nat_le, nat_lt, not, if◌then◌else◌, Bool, true, false, Option, Some, None, IfSome, is_some, List, [], ◌∷◌, All, length, reverse, slice_get, take}, List.list_any}
+use Rattle.std.specs.{Prelude.{ℕ, ◌≡◌, ◌≢◌, ◌<◌, ◌≤◌, ◌+◌, ◌&&◌, ◌||◌, ◌⊎◌, nat_le, nat_lt, not, if◌then◌else◌, Bool, true, false, Option, Some, None, IfSome, is_some, List, [], ◌∷◌, length, reverse, slice_get, take}, List.list_any}
 use Rattle.tc_entry.specs.declared.limits.TheConstants.{ARGUMENTS}
 use Rattle.tc_rules.specs.Prelude.{Entry, Verdict, answer, is_finish, is_parked, is_wake, names, overall, start}
 use Rattle.tc_step.specs.declared.limits.TheConstants.{STEPS}
@@ -55,13 +55,9 @@ abbrev pub IsFirstOf : List Reason → (Reason → Type 0) → Reason → Type 0
 IsFirstOf [] holds r = ⊥
 IsFirstOf (q ∷ qs) holds r = ((q ≡ r) × holds q) ⊎ ((holds q → ⊥) × IsFirstOf qs holds r)
 
--- the line at this place has no reason
-abbrev pub IsFree : Block → ℕ → Type 0
-IsFree b at = All (λ r. Has b at r → ⊥) line_reasons
-
 -- the refusal names the first line that has a reason, and its first one
 pub record IsFirstFault (b : Block) (r : Refusal) : Type 0 where
   pub at : ℕ
   pub line : r.line ≡ b.first_line + at + 1
   pub reason : IsFirstOf line_reasons (Has b at) r.reason
-  pub first : (k : ℕ) → k < at → IsFree b k
+  pub first : (k : ℕ) (q : Reason) → k < at → Has b k q → ⊥

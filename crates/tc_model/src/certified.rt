@@ -1,8 +1,10 @@
 //! Whether a text is a script of the models of blocks.
 ghost use Rattle.std.specs.Prelude.{◌≡◌, Ok, true, IfOk, map};
 ghost use Rattle.std.specs.List.{AllZip};
+ghost use Rattle.tc_blocks.specs.Prelude.{entries_of};
+ghost use Rattle.tc_course.specs.Prelude.{IsShown};
 ghost use Rattle.tc_reader.specs.Prelude.{CampaignView, campaign};
-ghost use Rattle.tc_model.specs.{Inside.TakesModel, Models.IsModelBy, Models.IsModel, Models.written};
+ghost use Rattle.tc_model.specs.{Inside.TakesModel, Models.IsModel, Models.written};
 
 use crate::models::Attempt;
 use std::alloc::Global;
@@ -25,7 +27,8 @@ fn scripts_of(alloc: Global, case: CaseScript) -> Result<Vec<Script>, NoMemory>
 
 // Whether the test case is a model of the block.
 fn is_model(alloc: Global, block: &Block, case: CaseScript) -> Result<bool, NoMemory>
-    ensures { IfOk result (λ is. is ≡ true → IsModelBy block.now (map (λ s. s.1) case)) }
+    ensures { IfOk result (λ is. is ≡ true
+        → IsShown (map (λ s. s.1) case) block.now.header.behaviours (entries_of block.now.lines) block.now.verdict) }
 {
     let scripts = scripts_of(alloc, case)?;
     if scripts.len() > BEHAVIOURS {

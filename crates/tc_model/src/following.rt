@@ -1,7 +1,7 @@
 //! A block followed by the component table, line by line, up to its first fault.
 ghost use Rattle.std.specs.Prelude.{◌≡◌, ◌<◌, ◌||◌, ◌↔◌, [], true, IfErr, IfNone, IfOk, IfSome, not};
 ghost use Rattle.tc_rules.specs.Prelude.{IsBehaviours, is_finish, is_wake, past_of};
-ghost use Rattle.tc_model.specs.{Inside.{AreWays, IsCallFault, IsDue, IsEndFault, IsEntryTaken, IsStartAmong}, Models.IsFollowed, Reasons.{CanCall, IsFirstFault}};
+ghost use Rattle.tc_model.specs.{Inside.{AreWays, IsCallFault, IsEndFault, IsEntryTaken}, Models.IsFollowed, Reasons.{CanCall, IsFirstFault}};
 
 use crate::given::Ways;
 use crate::reason::{Reason, Refusal};
@@ -54,11 +54,14 @@ fn note_name(runs: &mut [ModelRun], run: Run, name: &Name) {
     }
 }
 
-// Whether the caller runs, and the wake that is due is this call, or none is due.
-fn is_due(course: &Course, entry: &Entry) -> bool
-    requires { entry.now.caller.0 < course.now.behaviours }
-    ensures { (result ≡ true) ↔ IsDue (past_of course.now) entry.now }
+// Whether a behaviour of a script can call this after the course.
+fn can_call(course: &Course, behaviours: u16, entry: &Entry) -> bool
+    requires { behaviours ≡ course.now.behaviours }
+    ensures { (result ≡ true) ↔ CanCall behaviours (past_of course.now) entry.now }
 {
+    if entry.caller.0 >= behaviours {
+        return false;
+    }
     let known = course.known(entry.caller);
     if known.comp().is_none() || known.has_left() {
         return false;
@@ -67,28 +70,11 @@ fn is_due(course: &Course, entry: &Entry) -> bool
         (Some(wake), Op::Wake { .. }) => wake.same(&entry.op)
             && !matches!(entry.reply, Reply::Parked),
         (None, Op::Wake { .. }) | (Some(_), _) => false,
-        (None, _) => true,
-    }
-}
-
-// Whether the operation starts only one of that many behaviours, and gives nothing to the main component's.
-fn is_start(op: &Op, behaviours: u16) -> bool
-    ensures { (result ≡ true) ↔ IsStartAmong behaviours op.now }
-{
-    match op {
-        Op::Start { run, args, .. } => {
+        (None, Op::Start { run, args, .. }) => {
             run.0 < behaviours && (run.0 != 0 || args.as_slice().is_empty())
         }
-        _ => true,
+        (None, _) => true,
     }
-}
-
-// Whether a behaviour of a script can call this after the course.
-fn can_call(course: &Course, behaviours: u16, entry: &Entry) -> bool
-    requires { behaviours ≡ course.now.behaviours }
-    ensures { (result ≡ true) ↔ CanCall behaviours (past_of course.now) entry.now }
-{
-    entry.caller.0 < behaviours && is_due(course, entry) && is_start(&entry.op, behaviours)
 }
 
 // Why no script brings the entry after the course, apart from what it names.
@@ -238,6 +224,6 @@ pub(crate) fn follow(
     if let Some(refusal) = follow_lines(alloc, opening, &mut ways, runs.as_mut_slice(), block)? {
         return Ok(Err(refusal));
     }
-    give_runs(&mut runs, ways.into_given())?;
+    give_runs(&mut runs, ways.given)?;
     Ok(Ok(runs))
 }

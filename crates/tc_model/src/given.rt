@@ -33,7 +33,7 @@ pub(crate) struct Lack {
 #[derive(Drop)]
 pub(crate) struct Ways {
     starts: Vec<Start>,
-    given: Vec<Vec<Comp>>,
+    pub(crate) given: Vec<Vec<Comp>>,
 }
 
 // Whether the component is one of these.
@@ -190,7 +190,7 @@ fn is_too_much(lacks: &[Lack], given: &[Vec<Comp>]) -> bool
 fn give(given: &mut [Vec<Comp>], runs: &[Starter], comp: Comp) -> Result<(), NoMemory>
     requires { All (λ s. s.run.0 < length given.old) runs.now }
     ensures as_many { length given.new ≡ length given.old }
-    ensures each { OnOk result (AreGiven comp.0 runs.now given.old given.new) }
+    ensures each { OnOk result (AreGiven comp runs.now given.old given.new) }
 {
     for starter in runs {
         let own = &mut given[usize::from(starter.run.0)];
@@ -238,11 +238,6 @@ impl Ways {
             given.push(Vec::new(alloc))?;
         }
         Ok(Ways { starts, given })
-    }
-
-    /// What each run is given.
-    pub(crate) fn into_given(self) -> Vec<Vec<Comp>> {
-        self.given
     }
 
     // Takes in the run that the entry starts, if it starts one.

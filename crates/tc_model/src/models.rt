@@ -1,18 +1,19 @@
 //! The models of blocks.
 ghost use Rattle.std.specs.Prelude.{◌≡◌, ◌≤◌, ◌++◌, [], IfOk, OnOk, is_some, length, map};
 ghost use Rattle.std.specs.List.{flat_map};
-ghost use Rattle.tc_model.specs.Models.{AreAttempts, AreModels, AreTried, IsTried, attempt_note, of_block as spec_of_block, unread, written};
+ghost use Rattle.tc_model.specs.{Inside.unread, Models.{AreAttempts, AreModels, AreTried, IsTried, attempt_note, of_block as spec_of_block, written}};
 
 use crate::certified::are_spelled;
 use crate::following::follow;
 use crate::naming::{add_distinct, name_runs};
-use crate::reason::{Reason, Refusal, append_refusal};
+use crate::reason::{Reason, Refusal};
 use crate::writing::append_case;
 use indexmap::IndexSet;
 use std::alloc::Global;
 use tc_blocks::Block;
 use tc_entry::{Name, NoMemory, is_behaviours};
 use tc_reader::TEST_CASES;
+use tc_text::{append_number, append_text};
 
 /// The models of blocks: what came of each block, and the script of the models.
 #[derive(Drop)]
@@ -134,10 +135,16 @@ pub fn models_of(alloc: Global, blocks: Vec<Block>, limit: usize) -> Result<Mode
 fn append_note(out: &mut Vec<u8>, attempt: &Attempt) -> Result<(), NoMemory>
     ensures { OnOk result (out.new.items ≡ out.old.items ++ attempt_note attempt.now) }
 {
-    match attempt.refusal {
-        Some(refusal) => append_refusal(out, &attempt.block.header.name, refusal),
-        None => Ok(()),
+    if let Some(refusal) = attempt.refusal {
+        append_text(out, "ttrun: line ")?;
+        append_number(out, refusal.line as u64)?;
+        append_text(out, ": no model of ")?;
+        out.extend_from_slice(attempt.block.header.name.bytes())?;
+        append_text(out, ": ")?;
+        append_text(out, refusal.reason.text())?;
+        out.push(b'\n')?;
     }
+    Ok(())
 }
 
 /// The lines for the blocks that have no model.

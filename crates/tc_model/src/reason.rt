@@ -1,9 +1,6 @@
 //! Why a block has no model.
-ghost use Rattle.std.specs.Prelude.{◌≡◌, ◌++◌, OnOk};
-ghost use Rattle.tc_model.specs.Models.{reason_text, refusal_line};
-
-use tc_entry::{Name, NoMemory};
-use tc_text::{append_number, append_text};
+ghost use Rattle.std.specs.Prelude.{◌≡◌};
+ghost use Rattle.tc_model.specs.Models.{reason_text};
 
 /// Why a block has no model: of several the first in this order. From `NotLegal` to `NotOver` it is a fault of a line, and the
 /// first line that has one counts; each other is of the whole block.
@@ -34,8 +31,8 @@ pub enum Reason {
 }
 
 impl Reason {
-    // The words for it.
-    fn text(self) -> &'static str
+    /// The words for it.
+    pub(crate) fn text(self) -> &'static str
         ensures { result.now ≡ reason_text self }
     {
         match self {
@@ -59,22 +56,4 @@ pub struct Refusal {
     /// The number of the line in the text.
     pub line: usize,
     pub reason: Reason,
-}
-
-/// Appends the line that says why the test case of this name has no model; if memory runs out, a part of it.
-pub(crate) fn append_refusal(
-    out: &mut Vec<u8>,
-    name: &Name,
-    refusal: Refusal,
-) -> Result<(), NoMemory>
-    ensures { OnOk result (out.new.items ≡ out.old.items ++ refusal_line name.now refusal) }
-{
-    append_text(out, "ttrun: line ")?;
-    append_number(out, refusal.line as u64)?;
-    append_text(out, ": no model of ")?;
-    out.extend_from_slice(name.bytes())?;
-    append_text(out, ": ")?;
-    append_text(out, refusal.reason.text())?;
-    out.push(b'\n')?;
-    Ok(())
 }

@@ -1,6 +1,6 @@
 use Rattle.std.proofs.Common.{◌<◌, ◌≤◌, ◌∙◌, ap, arith, length, slice_set, sym}
 use Rattle.std.proofs.lemmas.List.Edits.{map_over_more}
-use Rattle.tc_model.specs.Models.{unread}
+use Rattle.tc_model.specs.Inside.{unread}
 use Rattle.tc_model.proofs.Trying.{all_unread, none_written_of, same_blocks_of}
 use Rattle.tc_model.proofs.models.refuse_all.Goals as goal
 

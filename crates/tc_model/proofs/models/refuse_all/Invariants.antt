@@ -1,5 +1,5 @@
 use Rattle.std.proofs.Common.{◌≡◌, ◌++◌, drop, map, take}
-use Rattle.tc_model.specs.Models.{unread}
+use Rattle.tc_model.specs.Inside.{unread}
 use Rattle.tc_model.proofs.models.refuse_all.Given as goal
 
 abbrev pub invariant-loop-attempt : goal.invariant-loop-attempt
