@@ -5,7 +5,7 @@ use Rattle.std.specs.Option.{IsSomeAnd, MatchOption}
 use Rattle.tc_rules.specs.Prelude.{Case, Entry, past_of}
 use Rattle.tc_course.proofs.Lemmas.{below_more}
 use Rattle.tc_blocks.specs.{Prelude.{entries_of, entry_in}, declared.{block.Block.Block, line.Line.Line}}
-use Rattle.tc_model.specs.{Inside.{AreWays, IsEndFault, IsEntryTaken}, Models.IsFollowed, Reasons.{EndHas, EntryHas, Has, IsFirstFault, IsFirstOf, LineHas, line_reasons}, declared.{given.Ways.Ways, reason.Reason.Reason, reason.Refusal.Refusal}}
+use Rattle.tc_model.specs.{Inside.{AreWays, IsEndFault, IsEntryTaken}, Models.IsFollowed, Reasons.{EntryHas, Has, IsFirstFault, IsFirstOf, LineHas, line_reasons}, declared.{given.Ways.Ways, reason.Reason.Reason, reason.Refusal.Refusal}}
 
 -- ---- the first reason
 
@@ -113,7 +113,7 @@ all_entries b i at t w whole past f =
 
 -- the end has no reason
 ended_free : (b : Block) (i : ℕ) (t : Case) (w : Ways) → length b.lines ≤ i → Follows b i t w →
-    All (λ r. EndHas b.header.behaviours (past_of t) b.verdict r → ⊥) line_reasons → IsFollowed b
+    All (λ r. LineHas b.header.behaviours (past_of t) b.verdict None r → ⊥) line_reasons → IsFollowed b
 ended_free b i t w whole f none at = by_place (nat_lt at i) refl
   where
     by_place : (is : Bool) → nat_lt at i ≡ is → NoReason (Has b at)
@@ -121,11 +121,11 @@ ended_free b i t w whole f none at = by_place (nat_lt at i) refl
     by_place false h =
         let past : length b.lines ≤ at = grind (arith, nat_tests) in
         at_place b at (past_of t) None NoReason (all_entries b i at t w whole past f) (slice_get_past b.lines at past)
-        (no_reason (EndHas b.header.behaviours (past_of t) b.verdict) none (λ h. h) (λ h. h) (λ h. h) (λ h. h))
+        (no_reason (LineHas b.header.behaviours (past_of t) b.verdict None) none (λ h. h) (λ h. h) (λ h. h) (λ h. h))
 
 -- the end has a reason
 ended_fault : (b : Block) (i line : ℕ) (r : Reason) (t : Case) (w : Ways) → length b.lines ≤ i → Follows b i t w → line ≡ b.first_line + i + 1 →
-    IsFirstOf line_reasons (EndHas b.header.behaviours (past_of t) b.verdict) r → IsFirstFault b (record { line = line; reason = r })
+    IsFirstOf line_reasons (LineHas b.header.behaviours (past_of t) b.verdict None) r → IsFirstFault b (record { line = line; reason = r })
 ended_fault b i line r t w whole f number first = record {
   at = i;
   line = number;

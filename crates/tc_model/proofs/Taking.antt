@@ -22,16 +22,10 @@ left_more attempts i a old new all within here left takes rest =
 
 -- a refused block takes none
 pub takes_none : (a : Attempt) (cases : CampaignView) → is_some a.refusal ≡ true → TakesModel a cases cases
-takes_none a cases some rest are = by_refusal a.refusal some
-  where
-    by_refusal : (o : Option Refusal) → is_some o ≡ true → AllZip IsModel (option_map_or (λ r. written rest) o (a.block ∷ written rest)) cases
-    by_refusal (Some r) h = are
-    by_refusal None h = absurd cc
+takes_none a cases some rest are = rw some are
 
 -- any other its model
 pub takes_one : (a : Attempt) (old new : CampaignView) (c : Word × List (Word × ScriptView)) → a.refusal ≡ None → old ≡ c ∷ new → IsModel a.block c → TakesModel a old new
-takes_one a old new c none first is rest are =
-    subst (λ o. AllZip IsModel (option_map_or (λ r. written rest) o (a.block ∷ written rest)) old) (sym none)
-    (subst (λ l. AllZip IsModel (a.block ∷ written rest) l) (sym first) (is, are))
+takes_one a old new c none first is rest are = rw (none, first) (is, are)
 
 pub ruleset taking_rules = (takes_none, takes_one)

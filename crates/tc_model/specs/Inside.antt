@@ -4,7 +4,7 @@ use Rattle.tc_entry.specs.declared.limits.TheConstants.{ARGUMENTS}
 use Rattle.tc_rules.specs.Prelude.{Case, Comp, Entry, Run, Verdict, add_new, answer, names, past_of, start}
 use Rattle.tc_course.specs.Prelude.{stand}
 use Rattle.tc_reader.specs.Prelude.{CampaignView}
-use Rattle.tc_model.specs.{Models.{IsModel, of_block, written}, Naming.{given_to, lacking, starters, starts}, Reasons.{CanCall, EndHas, EntryHas, IsFirstOf, line_reasons}, declared.{given.{Lack.Lack, Start.Start, Starter.Starter, Ways.Ways}, models.Attempt.Attempt, reason.Reason.Reason}}
+use Rattle.tc_model.specs.{Models.{IsModel, of_block, written}, Naming.{given_to, lacking, starters, starts}, Reasons.{CanCall, EntryHas, IsFirstOf, LineHas, line_reasons}, declared.{given.{Lack.Lack, Start.Start, Starter.Starter, Ways.Ways}, models.Attempt.Attempt, reason.Reason.Reason}}
 
 -- the test cases are those that are left, after the block's model if the block is not refused
 abbrev pub TakesModel : Attempt → CampaignView → CampaignView → Type 0
@@ -101,5 +101,5 @@ IsEntryTaken n past e w (Err r) = IsFirstOf line_reasons (EntryHas n past e) r
 
 -- the end has no reason; or its first one
 abbrev pub IsEndFault : ℕ → List Entry → Verdict → Option Reason → Type 0
-IsEndFault n past v None = All (λ r. EndHas n past v r → ⊥) line_reasons
-IsEndFault n past v (Some r) = IsFirstOf line_reasons (EndHas n past v) r
+IsEndFault n past v None = All (λ r. LineHas n past v None r → ⊥) line_reasons
+IsEndFault n past v (Some r) = IsFirstOf line_reasons (LineHas n past v None) r

@@ -1,5 +1,5 @@
 -- The models of blocks: scripts of which they are complete courses; and what is said of a block that has none.
-use Rattle.std.specs.Prelude.{ℕ, ◌≡◌, ◌<◌, ◌≤◌, ◌+◌, ◌⊎◌, if◌then◌else◌, Option, Some, is_some, Ok, List, [], ◌∷◌, ◌++◌, codes, map, unwrap_or}
+use Rattle.std.specs.Prelude.{ℕ, ◌≡◌, ◌<◌, ◌≤◌, ◌+◌, ◌⊎◌, if◌then◌else◌, Option, Some, is_some, Ok, List, [], ◌∷◌, ◌++◌, codes, filter, map, not, unwrap_or}
 use Rattle.std.specs.{Fmt.decimal, List.AllZip, Option.{MatchOption, option_map_or}}
 use Rattle.tc_blocks.specs.declared.block.Block.{Block}
 use Rattle.tc_blocks.specs.Prelude.{entries_of}
@@ -16,8 +16,7 @@ IsModel b c = IsShown (map (λ s. s.1) c.1) b.header.behaviours (entries_of b.li
 
 -- the blocks that are not refused
 abbrev pub written : List Attempt → List Block
-written [] = []
-written (a ∷ attempts) = option_map_or (λ refusal. written attempts) a.refusal (a.block ∷ written attempts)
+written attempts = map (λ a. a.block) (filter (λ a. not (is_some a.refusal)) attempts)
 
 -- the text is the script of one model of each block, in their order; of none it is empty
 abbrev pub AreModels : List ℕ → List Block → Type 0

@@ -30,17 +30,12 @@ EntryHas n past e Reason.NotGiven = some_lacking past e (λ c s. nat_le s.there 
 EntryHas n past e Reason.ManyArguments = some_lacking past e (λ c s. nat_lt ARGUMENTS (length (given_to (e ∷ past) s.run.0))) ≡ true
 EntryHas n past e _ = ⊥
 
--- no script ends after these entries with this verdict, for this reason
-abbrev pub EndHas : ℕ → List Entry → Verdict → Reason → Type 0
-EndHas n past v Reason.NotLegal = v ≢ overall past
-EndHas n past v Reason.NotOver = (b : ℕ) × (b < n) × (is_some (turn [] past b) ≡ true)
-EndHas n past v _ = ⊥
-
--- the line after these entries, or the last one, has this reason
+-- the line after these entries has this reason; there is none after all of them, and this is the verdict then
 abbrev pub LineHas : ℕ → List Entry → Verdict → Option Line → Reason → Type 0
 LineHas n past v (Some (Line.Entry e)) r = EntryHas n past e r
-LineHas n past v (Some _) r = ⊥
-LineHas n past v None r = EndHas n past v r
+LineHas n past v None Reason.NotLegal = v ≢ overall past
+LineHas n past v None Reason.NotOver = (b : ℕ) × (b < n) × (is_some (turn [] past b) ≡ true)
+LineHas n past v _ _ = ⊥
 
 -- the line at this place of the block, counted from 0 after its first line, has this reason
 abbrev pub Has : Block → ℕ → Reason → Type 0
