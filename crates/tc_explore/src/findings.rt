@@ -4,7 +4,7 @@ ghost use Rattle.std.specs.List.Sorted.{IsNonDecreasingBy, IsPermutation};
 ghost use Rattle.tc_entry.specs.declared.limits.TheConstants.{BEHAVIOURS};
 ghost use Rattle.tc_verdict.specs.declared.verdict.Verdict.TheVariants.{Error};
 ghost use Rattle.tc_rules.specs.Prelude.{past_of, is_over, level_of, overall};
-ghost use Rattle.tc_course.specs.Prelude.{carried_on, IsComplete, IsWitness, IsOn};
+ghost use Rattle.tc_course.specs.Prelude.{carried_on, IsComplete, IsOn};
 ghost use Rattle.tc_course.specs.Witnesses as witnesses;
 ghost use Rattle.tc_explore.specs.{Found.AreReached, Found.Covers, Inside.Seen.AreHeld, Inside.Seen.HasSameLocals, Inside.Seen.IsLonger, Inside.Seen.IsNoLess, Inside.Seen.IsNoted, Inside.Seen.IsOpen, Inside.Seen.IsStepped, Inside.Seen.IsSteppedIfActive};
 

@@ -1,6 +1,6 @@
 //! The search for verdicts up to one. It follows the calls of all runs, makes those at once of which nobody can see that
 //! they were made, and goes no further where the verdict is worse. If it comes to its end nothing up to that is missed.
-ghost use Rattle.std.specs.Prelude.{◌≡◌, ◌≤◌, ◌<◌, ◌∷◌, true, false, IfOk, OnOk, length, slice_index_or};
+ghost use Rattle.std.specs.Prelude.{◌≡◌, ◌≤◌, ◌<◌, true, false, IfOk, OnOk, length, slice_index_or};
 ghost use Rattle.tc_entry.specs.declared.limits.TheConstants.{BEHAVIOURS};
 ghost use Rattle.tc_rules.specs.Prelude.{past_of};
 ghost use Rattle.tc_course.specs.Prelude.{IsOn, carried_on};

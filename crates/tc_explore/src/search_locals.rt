@@ -1,5 +1,5 @@
 //! The search for local verdicts. It follows the calls of all runs, one by one.
-ghost use Rattle.std.specs.Prelude.{◌≡◌, ◌≤◌, ◌<◌, true, false, IfOk, OnOk, length};
+ghost use Rattle.std.specs.Prelude.{◌≡◌, ◌≤◌, ◌<◌, true, IfOk, OnOk, length};
 ghost use Rattle.tc_entry.specs.declared.limits.TheConstants.{BEHAVIOURS};
 ghost use Rattle.tc_rules.specs.Prelude.{past_of};
 ghost use Rattle.tc_course.specs.declared.found.Ending.TheVariants.{Complete, Undecided};

@@ -3,7 +3,7 @@ ghost use Rattle.std.specs.Prelude.{◌≡◌, ◌++◌, ◌∷◌, [], IfOk, On
 ghost use Rattle.std.specs.List.{flat_map, range_with_len};
 ghost use Rattle.tc_rules.specs.Prelude.{past_of};
 ghost use Rattle.tc_rules.specs.Faults as faults;
-ghost use Rattle.tc_explore.specs.Inside.Twins.{comp_code, comp_key, key_of, number_of, phase_code, run_key, run_key_of, local_code, target_key, wake_key};
+ghost use Rattle.tc_explore.specs.Inside.Twins.{comp_key, key_of, number_of, phase_code, run_key, run_key_of, target_key, wake_key};
 
 use std::alloc::Global;
 use tc_course::{Course, Standing, level};
