@@ -1,9 +1,9 @@
 -- Models of the blocks that are not refused, one after the other.
-use Rattle.std.proofs.Common.{ℕ, suc, ◌≡◌, ◌<◌, ◌+◌, ◌∙◌, Option, Some, None, is_some, true, List, ◌∷◌, length, drop, get_or, sym, ap, subst, arith, drop-cons}
-use Rattle.std.specs.{List.AllZip, Option.option_map_or}
+use Rattle.std.proofs.Common.{ℕ, suc, ◌≡◌, ◌<◌, ◌+◌, ◌∙◌, None, is_some, true, List, ◌∷◌, length, drop, get_or, sym, ap, subst, arith, drop-cons}
+use Rattle.std.specs.{List.AllZip}
 use Rattle.tc_reader.specs.Prelude.{CampaignView, Word}
 use Rattle.tc_step.specs.Prelude.{ScriptView}
-use Rattle.tc_model.specs.{Inside.TakesModel, Models.IsModel, Models.written, declared.models.Attempt.Attempt, declared.reason.Refusal.Refusal}
+use Rattle.tc_model.specs.{Inside.TakesModel, Models.IsModel, Models.written, declared.models.Attempt.Attempt}
 
 -- the next attempt, and those after it
 drop_next : (xs : List Attempt) (i : ℕ) (d : Attempt) → i < length xs → drop i xs ≡ get_or xs i d ∷ drop (i + 1) xs
