@@ -1,12 +1,14 @@
 -- Blocks next to the test cases of their script: what is kept of them while they are taken in.
-use Rattle.std.{proofs.{Math.{Bool.or-true, Path.fun_ext}, Common.{ℕ, zero, suc, ◌≡◌, ◌∙◌, ◌+◌, ◌<◌, ◌||◌, ◌↔◌, not, nat_lt, Bool, true, false, Option, Some, None, List, [], ◌∷◌, ◌++◌, drop, filter, length, map, get_or, reverse, take, slice_get, refl, sym, ap, ap₂, subst, append_assoc, arith}, lemmas.{Bool.Decides.nat_tests, List.{Quantifiers.position-Some, drop_more, reverse-append}}}, specs.{Bool.then_some, Cmp.Lexicographic.bytes_decides, List.{AllZip, list_any}, Option.option_map_or, Prelude.{max, position}}}
+use Rattle.std.{proofs.{Math.{Bool.or-true, Path.fun_ext}, Common.{ℕ, zero, suc, ◌≡◌, ◌∙◌, ◌+◌, ◌<◌, ◌||◌, ◌↔◌, if◌then◌else◌, not, nat_lt, Bool, true, false, Option, Some, None, List, [], ◌∷◌, ◌++◌, drop, filter, length, map, get_or, reverse, take, slice_get, refl, sym, ap, ap₂, subst, append_assoc, arith}, lemmas.{Bool.Decides.nat_tests, List.{Quantifiers.position-Some, drop_more, reverse-append}}}, specs.{Bool.then_some, Cmp.Lexicographic.bytes_decides, List.{AllZip, list_any}, Option.option_map_or, Prelude.{max, position}}}
 use Rattle.tc_blocks.specs.declared.block.Block.{Block}
 use Rattle.tc_reader.specs.Prelude.{is_text, CampaignView, Word, add, among, has_twice}
 use Rattle.tc_step.specs.Prelude.{ScriptView}
+use Rattle.tc_course.specs.Prelude.{IsShown}
+use Rattle.tc_rules.specs.Prelude.{Entry}
 use Rattle.tc_answer.{specs.{Prelude.{CaseView, scripts_of, RefusesChoice, blocks_part, script_part}, Inside.{AreReady, IsCaseOf}, declared.fault.RunFault.RunFault}, proofs.Lemmas.Chosen.{or_left, or_right}}
 use Rattle.tc_exec.specs.declared.test_case.Case.{Case}
 use Rattle.tc_command.specs.declared.task.Choice.{Choice}
-use Rattle.tc_judge.{specs.{Check.RefusesHistory, Compared.{AreJudged, IsCourseOf, IsJudged, RefusesAgainst, has_block_named, has_later, missing, note, place_in}, Inside.{AreComparable, IsJudgedBlock, IsWholeOfBlock, Judges, Meets, StandsBeside}, declared.{compare.{Comparing.Comparing, Wrong.Wrong}, judged.Judged.Judged, kept.Whole.Whole}}, proofs.{Counting.same_word, Lemmas.few_jobs, Passing.among_added}}
+use Rattle.tc_judge.{specs.{Check.RefusesHistory, Compared.{AreJudged, IsJudged, RefusesAgainst, has_block_named, has_later, missing, note, place_in}, Inside.{AreComparable, IsJudgedBlock, IsWholeOfBlock, Judges, Meets, StandsBeside}, declared.{compare.{Comparing.Comparing, Wrong.Wrong}, judged.Judged.Judged, kept.Whole.Whole}}, proofs.{Counting.same_word, Lemmas.few_jobs, Passing.among_added}}
 
 -- ---- test cases by name
 
@@ -44,12 +46,16 @@ pub met_is : (cases : CampaignView) (before : List Block) (b : Block) (c : Compa
 met_is cases before b c name x is s e = ap (has_block_named before) (sym is) ∙ (sym (s.met name) ∙ sym e)
 
 -- it is judged by its course
-pub course_judged : (cases : CampaignView) (before : List Block) (b : Block) (p : ℕ) (t : CaseView) (scripts : List ScriptView) (is : Bool) → place_in cases b.header.name ≡ Some p →
-    has_block_named before b.header.name ≡ false → has_later cases before p ≡ false → slice_get cases p ≡ Some t → scripts ≡ scripts_of t.1 → ((is ≡ true) ↔ IsCourseOf scripts b) →
+pub course_judged : (cases : CampaignView) (before : List Block) (b : Block) (j : Judged Whole) (p : ℕ) (t : CaseView) (scripts : List ScriptView) (entries : List Entry) (is : Bool) →
+    IsJudgedBlock IsWholeOfBlock b j → place_in cases b.header.name ≡ Some p → has_block_named before b.header.name ≡ false → has_later cases before p ≡ false →
+    slice_get cases p ≡ Some t → scripts ≡ scripts_of t.1 → entries ≡ j.kept.entries.items → ((is ≡ true) ↔ IsShown scripts j.kept.behaviours entries j.verdict) →
     IsJudged cases before b (then_some (not is) Wrong.NoCourse)
-course_judged cases before b p t scripts true at new next place same course = IsJudged.right p t at new next place (subst (λ x. IsCourseOf x b) same (course.0 refl))
-course_judged cases before b p t scripts false at new next place same course =
-    IsJudged.no_course p t at new next place (λ is. let yes : false ≡ true = course.1 (subst (λ x. IsCourseOf x b) (sym same) is) in absurd cc)
+course_judged cases before b j p t scripts entries is judged at new next place same lent course =
+    rw (at, new, next) (t, is, place, by is, rw (← same, ← judged.verdict, ← judged.kept.behaviours, ← judged.kept.entries, ← lent) course)
+  where
+    by : (x : Bool) → then_some (not x) Wrong.NoCourse ≡ (if x then None else Some Wrong.NoCourse)
+    by true = refl
+    by false = refl
 
 -- what is kept after it
 pub beside_more : (c after : Comparing) (name : Word) → after.names ≡ c.names → after.ready ≡ c.ready → after.met.keys ≡ add name c.met.keys →

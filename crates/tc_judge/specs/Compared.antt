@@ -1,12 +1,11 @@
 -- Histories and evidence after their script in one text, and what of them is no course of its test cases.
-use Rattle.std.specs.{Prelude.{ℕ, ◌≡◌, ◌==◌, nat_lt, Bool, true, false, if◌then◌else◌, Option, Some, None, not, List, [], ◌∷◌, ◌++◌, codes, filter, length, map, position, reverse, slice_get, ◌↔◌, All}, List.{flat_map, list_any}, Option.option_map_or}
+use Rattle.std.specs.{Prelude.{ℕ, ◌≡◌, ◌==◌, ◌&&◌, MatchBool, nat_lt, Bool, true, false, if◌then◌else◌, Option, Some, None, not, List, [], ◌∷◌, ◌++◌, codes, filter, length, map, position, reverse, slice_get, ◌↔◌, All}, List.{flat_map, list_any}, Option.{MatchOption, option_map_or}}
 use Rattle.tc_command.specs.declared.task.{Choice.Choice, ReportForm.ReportForm}
 use Rattle.tc_answer.specs.{declared.{fault.RunFault.RunFault, reply.Answer.Answer}, Prelude.{AreChosen, RefusesChoice, CaseView, scripts_of, script_part, blocks_part}}
-use Rattle.tc_blocks.specs.{declared.block.Block.Block, Prelude.{entries_of, AreEvidence, HoldsOfBlocks}}
+use Rattle.tc_blocks.specs.{declared.block.Block.Block, Prelude.{entries_of, HoldsOfBlocks}}
 use Rattle.tc_course.specs.Prelude.{IsShown}
-use Rattle.tc_step.specs.Prelude.{ScriptView}
 use Rattle.tc_reader.specs.Prelude.{is_text, CampaignView, Word}
-use Rattle.tc_judge.specs.{Check.{IsChecked, RefusesHistory, counting, IsLegalBlock, is_passing}, Report.IsReport, declared.compare.Wrong.Wrong}
+use Rattle.tc_judge.specs.{Check.{Checks, RefusesHistory, counting, IsLegalBlock, is_passing}, Report.IsReport, declared.compare.Wrong.Wrong}
 
 -- the place of the test case of this name in the script
 abbrev pub place_in : CampaignView → Word → Option ℕ
@@ -20,21 +19,14 @@ has_block_named blocks name = list_any (λ b. is_text name b.header.name) blocks
 abbrev pub has_later : CampaignView → List Block → ℕ → Bool
 has_later cases blocks p = list_any (λ b. option_map_or (nat_lt p) (place_in cases b.header.name) false) blocks
 
--- the block is a complete course of these scripts, with its verdict
-abbrev pub IsCourseOf : List ScriptView → Block → Type 0
-IsCourseOf scripts b = IsShown scripts b.header.behaviours (entries_of b.lines) b.verdict
-
--- what is wrong with a block after these, if something is
-pub data IsJudged (cases : CampaignView) (before : List Block) (b : Block) : Option Wrong → Type 0 where
-  unknown : place_in cases b.header.name ≡ None → IsJudged cases before b (Some Wrong.Unknown)
-  twice : (p : ℕ) → place_in cases b.header.name ≡ Some p → has_block_named before b.header.name ≡ true
-      → IsJudged cases before b (Some Wrong.Twice)
-  out_of_order : (p : ℕ) → place_in cases b.header.name ≡ Some p → has_block_named before b.header.name ≡ false → has_later cases before p ≡ true
-      → IsJudged cases before b (Some Wrong.OutOfOrder)
-  no_course : (p : ℕ) (c : CaseView) → place_in cases b.header.name ≡ Some p → has_block_named before b.header.name ≡ false → has_later cases before p ≡ false
-      → slice_get cases p ≡ Some c → (IsCourseOf (scripts_of c.1) b → ⊥) → IsJudged cases before b (Some Wrong.NoCourse)
-  right : (p : ℕ) (c : CaseView) → place_in cases b.header.name ≡ Some p → has_block_named before b.header.name ≡ false → has_later cases before p ≡ false
-      → slice_get cases p ≡ Some c → IsCourseOf (scripts_of c.1) b → IsJudged cases before b None
+-- What is wrong with a block after these, if something is. The script has no test case of its name; or one of these blocks has its name,
+-- or is of a later test case. Or it is no complete course of the scripts of its test case with its verdict.
+abbrev pub IsJudged : CampaignView → List Block → Block → Option Wrong → Type 0
+IsJudged cases before b wrong = MatchOption (place_in cases b.header.name) (wrong ≡ Some Wrong.Unknown) (λ p.
+    MatchBool (has_block_named before b.header.name) (wrong ≡ Some Wrong.Twice)
+    (MatchBool (has_later cases before p) (wrong ≡ Some Wrong.OutOfOrder)
+    ((c : CaseView) × (is : Bool) × (slice_get cases p ≡ Some c) × (wrong ≡ (if is then None else Some Wrong.NoCourse))
+    × ((is ≡ true) ↔ IsShown (scripts_of c.1) b.header.behaviours (entries_of b.lines) b.verdict))))
 
 -- the words for what is wrong
 abbrev pub wrong_text : Wrong → List ℕ
@@ -66,18 +58,20 @@ pub record IsCompared (cases : CampaignView) (blocks : List Block) (out : List �
 
 -- ---- a whole text
 
--- The text is a script, and histories and evidence after it. What `check` prints for the blocks that count is printed, and then what is
--- wrong with them as courses of the chosen test cases. The status is that of `check` if nothing is wrong, otherwise 3.
-pub record IsCheckedAgainst (choice : Choice) (text out : List ℕ) (status : ℕ) : Type 0 where
+-- The text is a script, and histories and evidence after it. This is so of the chosen test cases of the script, of the blocks that
+-- count, and of the lines that say what is wrong with these as courses of those.
+pub record IsBeside (choice : Choice) (text : List ℕ) (Is : CampaignView → List Block → List ℕ → Type 0) : Type 0 where
   pub cases : CampaignView
   pub chosen : AreChosen choice (script_part text) cases
-  pub lines : List ℕ
-  pub checked : ℕ
-  pub are_checked : IsChecked choice.last (λ b. true) (blocks_part text) lines checked
   pub notes : List ℕ
-  pub compared : (blocks : List Block) → AreEvidence (blocks_part text) blocks → IsCompared cases (counting choice.last blocks) notes
-  pub out_is : out ≡ lines ++ notes
-  pub status_is : status ≡ (if length notes == 0 then checked else 3)
+  pub holds : HoldsOfBlocks (blocks_part text) (λ all.
+      let blocks = counting choice.last all in IsCompared cases blocks notes × Is cases blocks notes)
+
+-- What `check` prints for the blocks is printed, and then what is wrong. The status is that of `check` if nothing is wrong, otherwise 3.
+abbrev pub IsCheckedAgainst : Choice → List ℕ → List ℕ → ℕ → Type 0
+IsCheckedAgainst choice text out status = IsBeside choice text (λ cases blocks notes.
+    (lines : List ℕ) × (legal : Bool) × Checks (λ b. true) blocks lines legal × (out ≡ lines ++ notes)
+    × (status ≡ (if legal && (length notes == 0) then 0 else 3)))
 
 -- The script is refused, or a name that is asked for. If neither is, the text after it may be refused as one of histories
 -- and evidence, its lines counted from its own first.
@@ -86,15 +80,10 @@ RefusesAgainst choice text (RunFault.Text fault) =
     ((cases : CampaignView) × AreChosen choice (script_part text) cases) × RefusesHistory (blocks_part text) (RunFault.Text fault)
 RefusesAgainst choice text fault = RefusesChoice choice (script_part text) fault
 
--- The text is a script, and histories and evidence after it. The test cases of those that count are reported, and after them
--- the chosen ones that are missing; what is wrong goes to standard error.
-pub record IsReportedAgainst (form : ReportForm) (choice : Choice) (text : List ℕ) (a : Answer) : Type 0 where
-  pub cases : CampaignView
-  pub chosen : AreChosen choice (script_part text) cases
-  pub notes : List ℕ
-  pub made : HoldsOfBlocks (blocks_part text) (λ all.
-      let blocks = counting choice.last all in
-      IsCompared cases blocks notes × IsReport form (blocks_part text) blocks blocks (missing (reverse blocks) cases) notes a)
+-- The test cases of the blocks are reported, and after them the chosen ones that are missing; what is wrong goes to standard error.
+abbrev pub IsReportedAgainst : ReportForm → Choice → List ℕ → Answer → Type 0
+IsReportedAgainst form choice text a = IsBeside choice text (λ cases blocks notes.
+    IsReport form (blocks_part text) blocks blocks (missing (reverse blocks) cases) notes a)
 
 -- ---- the test cases that the blocks show to have passed
 

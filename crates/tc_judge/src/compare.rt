@@ -7,7 +7,7 @@ ghost use Rattle.tc_blocks.specs.declared.block.Block.{Block};
 ghost use Rattle.tc_reader.specs.Prelude.{CampaignView, among, is_text};
 ghost use Rattle.tc_answer.specs.Prelude.{script_part};
 ghost use Rattle.tc_answer.specs.Inside.{AreReady, IsCaseOf};
-ghost use Rattle.tc_judge.specs.{Compared.IsCheckedAgainst, Compared.IsCourseOf, Compared.IsReportedAgainst, Compared.RefusesAgainst, Compared.note, Compared.wrong_text, Inside.AreComparable, Inside.AreComparedIn, Inside.Finds, Inside.IsJudgedBlock, Inside.IsWhole, Inside.IsWholeOfBlock, Inside.Judges, Inside.Meets, Inside.StandsBeside, declared.compare.Wrong.TheVariants.Missing};
+ghost use Rattle.tc_judge.specs.{Compared.IsCheckedAgainst, Compared.IsReportedAgainst, Compared.RefusesAgainst, Compared.note, Compared.wrong_text, Inside.AreComparable, Inside.AreComparedIn, Inside.Finds, Inside.IsJudgedBlock, Inside.IsWhole, Inside.IsWholeOfBlock, Inside.Judges, Inside.Meets, Inside.StandsBeside, declared.compare.Wrong.TheVariants.Missing};
 
 use crate::check::checked_status;
 use crate::judged::{Judged, first_illegal, judge_text};
@@ -66,16 +66,6 @@ fn append_note(out: &mut Vec<u8>, name: &Name, wrong: Option<Wrong>) -> Result<(
         out.push(b'\n')?;
     }
     Ok(())
-}
-
-// Whether the block is a complete course of these scripts, with its verdict.
-fn is_course_of(alloc: Global, scripts: &[Script], block: &Judged<Whole>) -> Result<bool, NoMemory>
-    requires { length scripts.now ≤ BEHAVIOURS }
-    ensures { IfOk result (λ is. (b : Block) → IsJudgedBlock IsWholeOfBlock b block.now → (is ≡ true) ↔ IsCourseOf scripts.now b) }
-{
-    let behaviours = block.kept.behaviours;
-    let entries = block.kept.entries.as_slice();
-    is_course(alloc, scripts, behaviours, entries, block.verdict)
 }
 
 // The names of test cases, which are different.
@@ -142,7 +132,10 @@ impl Comparing {
         if place + 1 < self.next {
             return Ok(Some(Wrong::OutOfOrder));
         }
-        let is = is_course_of(alloc, self.ready[place].jobs.as_slice(), block)?;
+        let scripts = self.ready[place].jobs.as_slice();
+        let (kept, verdict) = (&block.kept, block.verdict);
+        let entries = kept.entries.as_slice();
+        let is = is_course(alloc, scripts, kept.behaviours, entries, verdict)?;
         Ok((!is).then_some(Wrong::NoCourse))
     }
 

@@ -192,18 +192,7 @@ impl<K: Keeps + Drop> TakesEvidence for Judging<K> {
     }
 }
 
-// Of the blocks the last of each name, in the place of the first.
-fn last_of<B: Named + Drop>(alloc: Global, blocks: Vec<B>) -> Result<Vec<B>, NoMemory>
-    ensures { IfOk result (λ v. v.items ≡ that_count B.name_in true blocks.items) }
-{
-    let mut last = IndexMap::new(alloc);
-    for block in blocks {
-        last.insert(block.name(), block)?;
-    }
-    Ok(last.into_values().collect(alloc)?)
-}
-
-/// The blocks that count: all, or the last of each name.
+/// The blocks that count: all, or of each name the last, in the place of the first.
 pub fn counted<B: Named + Drop>(
     alloc: Global,
     last: bool,
@@ -211,11 +200,14 @@ pub fn counted<B: Named + Drop>(
 ) -> Result<Vec<B>, NoMemory>
     ensures { IfOk result (λ v. v.items ≡ that_count B.name_in last blocks.items) }
 {
-    if last {
-        last_of(alloc, blocks)
-    } else {
-        Ok(blocks)
+    if !last {
+        return Ok(blocks);
     }
+    let mut last = IndexMap::new(alloc);
+    for block in blocks {
+        last.insert(block.name(), block)?;
+    }
+    Ok(last.into_values().collect(alloc)?)
 }
 
 // How many bytes histories may have: all together, or, if they may be long, each block.

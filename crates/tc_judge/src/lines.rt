@@ -1,9 +1,9 @@
 //! Which blocks are picked, and the lines that `check` prints.
-ghost use Rattle.std.specs.Prelude.{◌≡◌, ◌++◌, IfOk, OnOk};
+ghost use Rattle.std.specs.Prelude.{◌≡◌, ◌++◌, ◌&&◌, IfOk, OnOk, not};
 ghost use Rattle.std.specs.List.{list_any};
-ghost use Rattle.tc_answer.specs.Prelude.{have_names};
+ghost use Rattle.tc_answer.specs.Prelude.{have_names, is_asked};
 ghost use Rattle.tc_rules.specs.Prelude.{matches};
-ghost use Rattle.tc_judge.specs.{Check.legal_line, Inside.gives_text, Inside.illegal_line, Inside.is_picked as spec_picked, Inside.line_by, Inside.names_found, Inside.printed};
+ghost use Rattle.tc_judge.specs.{Check.is_passing, Check.legal_line, Inside.gives_text, Inside.illegal_line, Inside.is_picked as spec_picked, Inside.line_by, Inside.names_found, Inside.printed};
 
 use crate::judged::{Judged, Named, first_illegal};
 use crate::playing::Judgement;
@@ -19,7 +19,7 @@ use tc_verdict::name as name_of_verdict;
 /// Whether a block of this name and this verdict is picked: its name is asked for, and if only what failed is, its verdict
 /// is neither none nor pass.
 pub fn is_picked(only: &[Pattern], failed: bool, name: &Name, verdict: Verdict) -> bool
-    ensures { result ≡ spec_picked only.now failed name.now verdict }
+    ensures { result ≡ (is_asked only.now name.now && not (failed && is_passing verdict)) }
 {
     is_asked(only, name) && !(failed && verdict_status(verdict) == 0)
 }

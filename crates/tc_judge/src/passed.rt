@@ -2,7 +2,7 @@
 ghost use Rattle.std.specs.Prelude.{◌≡◌, IfOk, IfErr, OnOk};
 ghost use Rattle.tc_reader.specs.Prelude.{add, among};
 ghost use Rattle.tc_answer.specs.Inside.{AreReadyAs};
-ghost use Rattle.tc_judge.specs.{Compared.RefusesAgainst, Inside.HasSeen, Inside.passes, Inside.shows_passed, Inside.with_failed, Compared.AreToRun, Compared.AreUnpassed, Compared.RefusesRun};
+ghost use Rattle.tc_judge.specs.{Compared.RefusesAgainst, Inside.HasSeen, Inside.shows_passed, Inside.with_failed, Compared.AreToRun, Compared.AreUnpassed, Compared.RefusesRun};
 
 use crate::compare::chosen_before;
 use crate::judged::{Judged, judge_text};
@@ -41,13 +41,6 @@ pub(crate) fn has_name(names: &IndexSet<Name>, name: &Name) -> bool
     names.contains(name)
 }
 
-// Whether the block shows its test case to have passed: it is legal, and its verdict is none or pass.
-fn shows_pass(block: &Judged<Nothing>) -> bool
-    ensures { result ≡ passes block.now }
-{
-    block.judgement.is_legal() && verdict_status(block.verdict) == 0
-}
-
 impl Seen {
     // Takes the next block in.
     fn take(&mut self, block: &Judged<Nothing>) -> Result<(), NoMemory>
@@ -55,7 +48,7 @@ impl Seen {
         ensures failed { OnOk result (self.new.failed.keys ≡ with_failed self.old.failed.keys block.now) }
     {
         add_name(&mut self.names, &block.name)?;
-        if !shows_pass(block) {
+        if !(block.judgement.is_legal() && verdict_status(block.verdict) == 0) {
             add_name(&mut self.failed, &block.name)?;
         }
         Ok(())

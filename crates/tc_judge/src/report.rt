@@ -21,18 +21,10 @@ use tc_report::{
 use tc_rules::NoMemory;
 use tc_text::append_text;
 
-// The blocks that are picked, in their order.
-fn picked<K: Drop>(mut blocks: Vec<Judged<K>>, only: &[Pattern], failed: bool) -> Vec<Judged<K>>
-    ensures { result.items ≡ filter (λ j. spec_picked only.now failed j.name j.verdict) blocks.items }
-{
-    blocks.retain(|block| is_picked(only, failed, &block.name, block.verdict));
-    blocks
-}
-
 // The chosen blocks, and the judgement of the first of all that is not legal; or some pattern matches the name of no block.
 fn pick<K: Drop>(
     choice: &Choice,
-    blocks: Vec<Judged<K>>,
+    mut blocks: Vec<Judged<K>>,
 ) -> Result<(Vec<Judged<K>>, Option<Judgement>), RunFault>
     ensures picked { IfOk result (λ r. ArePicked choice.now blocks.items r.0.items r.1) }
     ensures lacking { IfErr result (λ fault. (fault ≡ RunFault.Only) × (names_found choice.now blocks.items ≡ false)) }
@@ -41,8 +33,9 @@ fn pick<K: Drop>(
     if !name_blocks(choice, blocks.as_slice()) {
         return Err(RunFault::Only);
     }
-    let only = choice.only.as_slice();
-    Ok((picked(blocks, only, choice.failed), illegal))
+    let (only, failed) = (choice.only.as_slice(), choice.failed);
+    blocks.retain(|block| is_picked(only, failed, &block.name, block.verdict));
+    Ok((blocks, illegal))
 }
 
 // The test cases of the blocks.

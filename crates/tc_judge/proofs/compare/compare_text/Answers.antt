@@ -1,4 +1,4 @@
-use Rattle.std.{proofs.Common.{◌≡◌, ◌∙◌, ◌==◌, ◌++◌, [], false, if◌then◌else◌, ap, length, refl}, specs.Prelude.is_some}
+use Rattle.std.{proofs.Common.{ℕ, ◌≡◌, ◌∙◌, ◌==◌, ◌&&◌, ◌++◌, [], Bool, false, true, if◌then◌else◌, ap, ap₂, length, refl}, specs.Prelude.is_some}
 use Rattle.tc_answer.specs.Prelude.{blocks_part}
 use Rattle.tc_judge.{specs.Inside.{IsWholeOfBlock, first_illegal, is_picked, printed}, proofs.Judging.all_checked}
 use Rattle.tc_judge.proofs.compare.compare_text.Goals as goal
@@ -10,19 +10,29 @@ returns-clause-done c =
     let notes = c.in_ok-blocks.comparison.notes.items in
     let lent : c.as_slice-notes.result.now ≡ notes = c.as_slice-notes.ensures.value in
     let lines = c.in_ok-out.out.items in
+    let checked = all_checked IsWholeOfBlock c.args.choice.now.last (is_picked [] false) (blocks_part c.args.text.now) lines c.checked_status.result blocks found.judged
+    (c.in_ok-out.ensures ∙ ap (printed (is_picked [] false)) c.as_slice.ensures.value)
+    (c.checked_status.ensures ∙ ap (λ l. if is_some (first_illegal l) then 3 else 0) c.as_slice-2.ensures.value) in
+    let status_is = c.noted_status-status.ensures ∙ ap₂ (λ l s. if length l == 0 then s else 3) lent checked.status_is ∙ by (length notes == 0) checked.legal in
     rw c.silent.ensures (
       record {
         cases = found.cases;
         chosen = found.chosen;
-        lines = lines;
-        checked = c.checked_status.result;
-        are_checked = all_checked IsWholeOfBlock c.args.choice.now.last (is_picked [] false) (blocks_part c.args.text.now) lines c.checked_status.result blocks found.judged
-            (c.in_ok-out.ensures ∙ ap (printed (is_picked [] false)) c.as_slice.ensures.value)
-            (c.checked_status.ensures ∙ ap (λ l. if is_some (first_illegal l) then 3 else 0) c.as_slice-2.ensures.value);
         notes = notes;
-        compared = λ all are. (found.found all are).0;
-        out_is = c.in_ok-extend_from_slice.ensures.items ∙ ap (λ l. lines ++ l) lent;
-        status_is = c.noted_status-status.ensures ∙ ap (λ l. if length l == 0 then c.checked_status.result else 3) lent;
+        holds = record {
+          blocks = found.judged.blocks;
+          evidence = found.judged.evidence;
+          holds = λ all are. (
+            (found.found all are).0,
+            (lines, checked.legal, checked.checks.holds all are, c.in_ok-extend_from_slice.ensures.items ∙ ap (λ l. lines ++ l) lent, status_is),
+          );
+        };
       },
       refl,
     )
+  where
+    by : (none legal : Bool) → ◌≡◌ {A = ℕ} (if none then (if legal then 0 else 3) else 3) (if legal && none then 0 else 3)
+    by true true = refl
+    by true false = refl
+    by false true = refl
+    by false false = refl

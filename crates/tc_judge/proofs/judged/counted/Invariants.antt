@@ -1,6 +1,6 @@
 use Rattle.std.{proofs.Common.{◌≡◌, [], fold, length}, specs.Vec.Iter.{into_iter_items, into_iter_len}}
 use Rattle.tc_judge.proofs.Counting.{takes_in}
-use Rattle.tc_judge.proofs.judged.last_of.Given as goal
+use Rattle.tc_judge.proofs.judged.counted.Given as goal
 
 -- with the blocks that are left taken in, the map has what it has of all
 abbrev pub invariant-loop-block : goal.invariant-loop-block
