@@ -222,24 +222,6 @@ fn limit_of(long: bool) -> Limit
     }
 }
 
-// The blocks of the text of an input, of which only a part is in memory at a time; or why the input was not read.
-fn judge_all_input<R: Read, K: Keeps + Drop>(
-    alloc: Global,
-    limit: Limit,
-    reader: &mut R,
-) -> Result<Vec<Judged<K>>, RunFault>
-    requires { most_of limit < usize.MAX }
-    ensures judged { IfOk result (λ v. IsReadIn limit (R.remaining reader.old) (λ text. AreJudgedIn K.keeps false text v.items)) }
-    ensures refused { IfErr result (λ fault. IsUnreadIn limit (R.remaining reader.old) fault
-        ⊎ IsReadIn limit (R.remaining reader.old) (λ text. RefusesHistory text fault)) }
-{
-    match read_evidence_from(alloc, reader, limit) {
-        Ok(Ok(Judging { blocks, .. })) => Ok(blocks),
-        Ok(Err(fault)) => Err(RunFault::from(fault)),
-        Err(fault) => Err(of_input(fault)),
-    }
-}
-
 /// Of the blocks that the text spells those that count, each judged; otherwise the text's first fault, or NoMemory.
 pub(crate) fn judge_text<K: Keeps + Drop>(
     alloc: Global,
@@ -264,6 +246,9 @@ pub(crate) fn judge_input<R: Read, K: Keeps + Drop>(
     ensures refused { IfErr result (λ fault. IsUnreadIn (history_limit choice.now.long) (R.remaining reader.old) fault
         ⊎ IsReadIn (history_limit choice.now.long) (R.remaining reader.old) (λ text. RefusesHistory text fault)) }
 {
-    let blocks = judge_all_input::<R, K>(alloc, limit_of(choice.long), reader)?;
-    Ok(counted(alloc, choice.last, blocks)?)
+    match read_evidence_from(alloc, reader, limit_of(choice.long)) {
+        Ok(Ok(Judging { blocks, .. })) => Ok(counted(alloc, choice.last, blocks)?),
+        Ok(Err(fault)) => Err(RunFault::from(fault)),
+        Err(fault) => Err(of_input(fault)),
+    }
 }
