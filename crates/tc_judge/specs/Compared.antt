@@ -1,5 +1,5 @@
 -- Histories and evidence after their script in one text, and what of them is no course of its test cases.
-use Rattle.std.specs.{Prelude.{ℕ, ◌≡◌, ◌==◌, ◌&&◌, MatchBool, nat_lt, Bool, true, false, if◌then◌else◌, Option, Some, None, not, List, [], ◌∷◌, ◌++◌, codes, filter, length, map, position, reverse, slice_get, ◌↔◌, All}, List.{flat_map, list_any}, Option.{MatchOption, option_map_or}}
+use Rattle.std.specs.{Prelude.{ℕ, ◌≡◌, ◌==◌, MatchBool, nat_lt, Bool, true, false, if◌then◌else◌, Option, Some, None, not, List, [], ◌∷◌, ◌++◌, codes, filter, length, map, position, reverse, slice_get, ◌↔◌, All}, List.{flat_map, list_any}, Option.{MatchOption, option_map_or}}
 use Rattle.tc_command.specs.declared.task.{Choice.Choice, ReportForm.ReportForm}
 use Rattle.tc_answer.specs.{declared.{fault.RunFault.RunFault, reply.Answer.Answer}, Prelude.{AreChosen, RefusesChoice, CaseView, scripts_of, script_part, blocks_part}}
 use Rattle.tc_blocks.specs.{declared.block.Block.Block, Prelude.{entries_of, HoldsOfBlocks}}
@@ -71,7 +71,7 @@ pub record IsBeside (choice : Choice) (text : List ℕ) (Is : CampaignView → L
 abbrev pub IsCheckedAgainst : Choice → List ℕ → List ℕ → ℕ → Type 0
 IsCheckedAgainst choice text out status = IsBeside choice text (λ cases blocks notes.
     (lines : List ℕ) × (legal : Bool) × Checks (λ b. true) blocks lines legal × (out ≡ lines ++ notes)
-    × (status ≡ (if legal && (length notes == 0) then 0 else 3)))
+    × (status ≡ (if length notes == 0 then (if legal then 0 else 3) else 3)))
 
 -- The script is refused, or a name that is asked for. If neither is, the text after it may be refused as one of histories
 -- and evidence, its lines counted from its own first.

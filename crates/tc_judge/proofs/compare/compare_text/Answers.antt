@@ -1,4 +1,4 @@
-use Rattle.std.{proofs.Common.{ℕ, ◌≡◌, ◌∙◌, ◌==◌, ◌&&◌, ◌++◌, [], Bool, false, true, if◌then◌else◌, ap, ap₂, length, refl}, specs.Prelude.is_some}
+use Rattle.std.{proofs.Common.{◌≡◌, ◌∙◌, ◌==◌, ◌++◌, [], false, if◌then◌else◌, ap, ap₂, length, refl}, specs.Prelude.is_some}
 use Rattle.tc_answer.specs.Prelude.{blocks_part}
 use Rattle.tc_judge.{specs.Inside.{IsWholeOfBlock, first_illegal, is_picked, printed}, proofs.Judging.all_checked}
 use Rattle.tc_judge.proofs.compare.compare_text.Goals as goal
@@ -13,7 +13,7 @@ returns-clause-done c =
     let checked = all_checked IsWholeOfBlock c.args.choice.now.last (is_picked [] false) (blocks_part c.args.text.now) lines c.checked_status.result blocks found.judged
     (c.in_ok-out.ensures ∙ ap (printed (is_picked [] false)) c.as_slice.ensures.value)
     (c.checked_status.ensures ∙ ap (λ l. if is_some (first_illegal l) then 3 else 0) c.as_slice-2.ensures.value) in
-    let status_is = c.noted_status-status.ensures ∙ ap₂ (λ l s. if length l == 0 then s else 3) lent checked.status_is ∙ by (length notes == 0) checked.legal in
+    let status_is = c.noted_status-status.ensures ∙ ap₂ (λ l s. if length l == 0 then s else 3) lent checked.status_is in
     rw c.silent.ensures (
       record {
         cases = found.cases;
@@ -30,9 +30,3 @@ returns-clause-done c =
       },
       refl,
     )
-  where
-    by : (none legal : Bool) → ◌≡◌ {A = ℕ} (if none then (if legal then 0 else 3) else 3) (if legal && none then 0 else 3)
-    by true true = refl
-    by true false = refl
-    by false true = refl
-    by false false = refl
