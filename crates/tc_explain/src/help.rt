@@ -1,6 +1,4 @@
 //! Lines that only help, as a text, and the nearest of some words to a word.
-ghost use Rattle.std.specs.Prelude.{◌≡◌, ◌<◌, ◌≤◌, ◌*◌, ◌⊎◌, ◌↔◌, IsTrue, length};
-
 use crate::Result;
 use crate::quote::{SHOWN, quoted_begin, quoted_rest};
 use crate::scan::Opened;
@@ -39,23 +37,19 @@ pub(crate) struct Help<'l> {
 }
 
 // How many bytes are before the word at this place among the words of the line, or before its end.
-fn start_of(line: &[u8], place: usize) -> usize
-    ensures { result ≤ length line.now }
-{
-    let mut left = place;
-    let mut inside = false;
-    for (at, byte) in line.iter().enumerate() {
-        if *byte == b' ' {
-            inside = false;
-        } else if !inside {
-            if left == 0 {
-                return at;
-            }
-            left -= 1;
-            inside = true;
-        }
+fn start_of(line: &[u8], place: usize) -> usize {
+    let pairs = b" ".iter().chain(line).zip(line).enumerate();
+    let mut starts = pairs.filter(|(_, (before, byte))| **before == b' ' && **byte != b' ');
+    starts.nth(place).map_or(line.len(), |(at, _)| at)
+}
+
+/// Appends these words, each after a space.
+pub(crate) fn append_words(out: &mut Vec<u8>, words: &[&[u8]]) -> Result<()> {
+    for word in words {
+        out.push(b' ')?;
+        out.extend_from_slice(word)?;
     }
-    line.len()
+    Ok(())
 }
 
 impl Help<'_> {
@@ -87,20 +81,17 @@ impl Help<'_> {
     /// Adds a line of these words, and of what is before and after them.
     pub(crate) fn add_words(&mut self, before: &str, words: &[&[u8]], after: &str) -> Result<()> {
         append_text(&mut self.text, before)?;
-        for word in words {
-            append_text(&mut self.text, " ")?;
-            self.text.extend_from_slice(word)?;
-        }
+        append_words(&mut self.text, words)?;
         self.add_line(after)
     }
 
     /// Adds the one of these words that is the nearest to a word, if one is near. Whether one is.
     pub(crate) fn add_near(&mut self, word: &[u8], words: &[&[u8]]) -> Result<bool> {
-        match near_word(self.alloc, word, words)? {
-            Some(near) => self.add_words("nearest:", &[near], "")?,
-            None => return Ok(false),
+        let near = near_word(self.alloc, word, words)?;
+        if let Some(near) = near {
+            self.add_words("nearest:", &[near], "")?;
         }
-        Ok(true)
+        Ok(near.is_some())
     }
 
     /// Adds the words that would be understood, and what else would; one of both may be empty.
@@ -138,34 +129,12 @@ fn edits(alloc: Global, word: &[u8], other: &[u8]) -> Result<usize> {
 
 // Whether the bytes may be a name, a keyword or a reply.
 fn is_plain_word(word: &[u8]) -> bool {
-    word.len() <= NAME_BYTES
-        && word.iter().all(|byte| byte.is_ascii_alphanumeric() || *byte == b'_' || *byte == b'-')
+    let is_of_word = |byte: &u8| byte.is_ascii_alphanumeric() || matches!(*byte, b'_' | b'-');
+    word.len() <= NAME_BYTES && word.iter().all(is_of_word)
 }
 
-// The word of the table to which the fewest edits lead, the first of them, and how many.
-fn nearest<'t>(
-    alloc: Global,
-    word: &[u8],
-    table: &[&'t [u8]],
-) -> Result<Option<(&'t [u8], usize)>> {
-    let mut found: Option<(&'t [u8], usize)> = None;
-    for other in table {
-        let distance = edits(alloc, word, other)?;
-        if found.is_none_or(|(_, least)| distance < least) {
-            found = Some((other, distance));
-        }
-    }
-    Ok(found)
-}
-
-// Whether that many edits of a word are few: some, but fewer than it has letters, and one or at most a third of them.
-fn is_near(word: &[u8], distance: usize) -> bool
-    ensures { IsTrue result ↔ (0 < distance) × ((distance < length word.now) × ((distance ≡ 1) ⊎ (3 * distance ≤ length word.now))) }
-{
-    0 < distance && distance < word.len() && (distance == 1 || distance <= word.len() / 3)
-}
-
-/// The word of the table that is the nearest to a word, if it is near.
+/// The first word of the table to which the fewest edits of a word lead, if it is near. Then the edits are some, but fewer
+/// than the word has letters, and one or at most a third of them.
 pub(crate) fn near_word<'t>(
     alloc: Global,
     word: &[u8],
@@ -174,6 +143,14 @@ pub(crate) fn near_word<'t>(
     if !is_plain_word(word) {
         return Ok(None);
     }
-    let near = nearest(alloc, word, table)?.filter(|(_, distance)| is_near(word, *distance));
-    Ok(near.map(|(word, _)| word))
+    let mut found: Option<(&'t [u8], usize)> = None;
+    for other in table {
+        let distance = edits(alloc, word, other)?;
+        if found.is_none_or(|(_, least)| distance < least) {
+            found = Some((other, distance));
+        }
+    }
+    let near = 1..word.len().min((word.len() / 3).max(1) + 1);
+    let found = found.filter(|(_, distance)| near.contains(distance));
+    Ok(found.map(|(word, _)| word))
 }

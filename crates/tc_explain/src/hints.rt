@@ -1,11 +1,9 @@
 //! What helps besides the place where a line stops.
-ghost use Rattle.std.specs.Prelude.{ℕ, ◌≡◌, ◌≢◌, ◌<◌, ◌≤◌, ◌+◌, ◌-◌, ◌⊎◌, true, false, length, slice_index};
-
 use crate::Result;
 use crate::help::{Around, Help};
 use crate::naming::add_naming;
 use crate::scan::Opened;
-use crate::slot::{Slot, Walk, is_digits};
+use crate::slot::{Slot, is_digits, slots_of};
 use crate::sort::{Refusal, Sort};
 use crate::source::{add_source, begins_comment};
 use std::alloc::Global;
@@ -38,70 +36,57 @@ fn offered<'k>(opened: Opened, slot: Slot, words: &'k [&'static [u8]]) -> &'k [&
         (Slot::Keyword, Opened::Nothing) => 0..1,
         (Slot::Keyword, Opened::Begun(_, has_behaviour)) => 1..2 + usize::from(has_behaviour),
         (Slot::Keyword, Opened::Inside(..)) => 2..words.len(),
-        _ if slot.lists() => 0..words.len(),
+        (Slot::Verb | Slot::Reply | Slot::Error, _) => 0..words.len(),
         _ => 0..0,
     };
     words.get(places).unwrap_or(&[])
 }
 
-// Adds the word at which the line stops, or its end, what may be there, and the nearest of that.
-fn add_stop(help: &mut Help, walk: &Walk) -> Result<()> {
-    let place = walk.slots.len();
-    let words = walk.last.words(help.alloc)?;
-    let offered = offered(help.around.opened, walk.last, words.as_slice());
-    let other = walk.last.text(walk.sort, help.words.len() <= place);
-    match help.words.get(place) {
-        None if walk.last.ends_line(walk.sort) => Ok(()),
-        None => {
-            help.add_counted(
-                "column ",
-                help.line.len().saturating_add(1),
-                ": the end of the line",
-            )?;
-            help.add_expected(offered, other)
-        }
-        Some(word) => {
-            help.add_word(place)?;
-            help.add_expected(offered, other)?;
-            help.add_near(word, words.as_slice())?;
-            Ok(())
-        }
+// Adds the word at this place, at which the line stops, or its end, what may be there, and the nearest of that.
+fn add_stop(help: &mut Help, place: usize, slot: Slot) -> Result<()> {
+    let sort = help.around.refusal.sort();
+    let mut words = Vec::new(help.alloc);
+    read_words(slot.texts().0.as_bytes(), &mut words)?;
+    let offered = offered(help.around.opened, slot, words.as_slice());
+    let other = slot.text(sort, help.words.len() <= place);
+    if let Some(word) = help.words.get(place) {
+        help.add_word(place)?;
+        help.add_expected(offered, other)?;
+        help.add_near(word, words.as_slice())?;
+    } else if !slot.ends_line(sort) {
+        let column = help.line.len().saturating_add(1);
+        help.add_counted("column ", column, ": the end of the line")?;
+        help.add_expected(offered, other)?;
     }
-}
-
-// Adds what the word may be at which a line of a script stops.
-fn add_stopped(help: &mut Help, kind: ScriptKind, slot: Slot, word: &[u8]) -> Result<()> {
-    if begins_comment(word) {
-        help.add_line("a comment has a line of its own, which begins with #")
-    } else if kind == ScriptKind::BadName {
-        help.add_name_rule()
-    } else if slot == Slot::Verdict && is_word(word, b"error") {
-        help.add_line("stopcase ends a test case with the verdict error")
-    } else {
-        Ok(())
-    }
+    Ok(())
 }
 
 // Adds what helps with a line that is of no form of a script.
 fn add_unformed(help: &mut Help, kind: ScriptKind) -> Result<()> {
-    let walk = Walk::new(help.alloc, Sort::Script, Slot::Keyword, help.words)?;
-    if walk.is_whole(help.words) {
+    let (slots, slot) = slots_of(help.alloc, Sort::Script, Slot::Keyword, help.words)?;
+    let found = help.words.get(slots.len()).copied();
+    if found.is_none() && slot.ends_line(Sort::Script) {
         return help.add_line("the line is understood");
     }
-    add_stop(help, &walk)?;
+    add_stop(help, slots.len(), slot)?;
     if add_source(help)? {
         return Ok(());
     }
-    match help.words.get(walk.slots.len()) {
-        Some(word) => add_stopped(help, kind, walk.last, word),
-        None => Ok(()),
+    match found {
+        Some(word) if begins_comment(word) => {
+            help.add_line("a comment has a line of its own, which begins with #")
+        }
+        Some(_) if kind == ScriptKind::BadName => help.add_name_rule(),
+        Some(b"error") if slot == Slot::Verdict => {
+            help.add_line("stopcase ends a test case with the verdict error")
+        }
+        _ => Ok(()),
     }
 }
 
 // Adds what helps with a line of this keyword that may not be where it is.
 fn add_misplaced(help: &mut Help, keyword: Keyword) -> Result<()> {
-    let walk = Walk::new(help.alloc, Sort::Script, Slot::Keyword, &[])?;
-    add_stop(help, &walk)?;
+    add_stop(help, 0, Slot::Keyword)?;
     help.add_line(match (keyword, help.around.opened) {
         (Keyword::TestCase, _) | (Keyword::Behaviour, Opened::Inside(..)) => {
             "an end is missing above: each behaviour and each test case ends with `end`"
@@ -129,66 +114,64 @@ fn add_script(help: &mut Help, kind: ScriptKind) -> Result<()> {
     }
 }
 
-// Adds why a word of digits at this place and slot is no number. Whether it is none.
-fn add_number(help: &mut Help, place: usize, slot: Slot, word: &[u8]) -> Result<bool> {
-    let most = match slot {
+// The largest number that may be at this slot.
+fn most_at(slot: Slot) -> u32 {
+    match slot {
         Slot::Run | Slot::Entry | Slot::Started => u16::MAX as u32,
         _ => u32::MAX,
-    };
-    if !is_digits(word) || read_number(word).is_some_and(|number| number <= most) {
-        return Ok(false);
     }
+}
+
+// Adds which of the words, the first of which are at these slots, is no number, and why. Whether one is none.
+fn add_number(help: &mut Help, slots: &[Slot]) -> Result<bool> {
+    let is_wrong = |slot: Slot, word: &[u8]| {
+        is_digits(word) && read_number(word).is_none_or(|number| number > most_at(slot))
+    };
+    let mut pairs = slots.iter().zip(help.words).enumerate();
+    let Some((place, (slot, word))) = pairs.find(|(_, (slot, word))| is_wrong(**slot, word)) else {
+        return Ok(false);
+    };
     help.add_word(place)?;
     match word {
         [b'0', _, ..] => help.add_line("a number begins with 0 only if it is 0")?,
-        _ => help.add_counted("the number is at most ", most as usize, "")?,
+        _ => help.add_counted("the number is at most ", most_at(*slot) as usize, "")?,
     }
     Ok(true)
 }
 
-// Adds which of the words, the first of which are at these slots, is no number, and why. Whether one is none.
-fn add_numbers(help: &mut Help, slots: &[Slot]) -> Result<bool> {
-    let words = help.words;
-    for (place, (slot, word)) in slots.iter().zip(words.iter()).enumerate() {
-        if add_number(help, place, *slot, word)? {
-            return Ok(true);
-        }
-    }
-    Ok(false)
-}
-
 // How many of the words, which are at these slots, are at this one, and no arrow.
 fn count_at(wanted: Slot, slots: &[Slot], words: &[&[u8]]) -> usize {
-    let pairs = slots.iter().zip(words.iter());
+    let pairs = slots.iter().zip(words);
     let found = pairs.filter(|(slot, word)| **slot == wanted && !is_word(word, b"->"));
     found.count()
 }
 
 // Adds what helps with a line of moves or histories, the first word of which is at this slot.
-fn add_call(help: &mut Help, sort: Sort, first: Slot) -> Result<()> {
-    let walk = Walk::new(help.alloc, sort, first, help.words)?;
-    let slots = walk.slots.as_slice();
-    if !walk.is_whole(help.words) {
-        return add_stop(help, &walk);
+fn add_call(help: &mut Help, first: Slot) -> Result<()> {
+    let sort = help.around.refusal.sort();
+    let (slots, slot) = slots_of(help.alloc, sort, first, help.words)?;
+    let slots = slots.as_slice();
+    if slots.len() < help.words.len() || !slot.ends_line(sort) {
+        return add_stop(help, slots.len(), slot);
     }
-    if add_numbers(help, slots)? {
+    if add_number(help, slots)? {
         return Ok(());
     }
     if count_at(Slot::Arguments, slots, help.words) > ARGUMENTS {
         return help.add_counted("a start has at most ", ARGUMENTS, " arguments");
     }
-    if sort == Sort::Histories && count_at(Slot::GivenName, slots, help.words) > 0 {
-        return help.add_line("a history of format 1 names no component");
-    }
-    help.add_line("the line is understood")
+    let is_named = sort == Sort::Histories && count_at(Slot::GivenName, slots, help.words) > 0;
+    help.add_line(if is_named {
+        "a history of format 1 names no component"
+    } else {
+        "the line is understood"
+    })
 }
 
 // Adds what the first line of a history is, and of a name in its place what it may have.
 fn add_first_line(help: &mut Help) -> Result<()> {
     let text = match help.words {
-        [first, ..] if is_word(first, b"evidence") => {
-            "expected: evidence 1 NAME N, with N from 1 to 256"
-        }
+        [b"evidence", ..] => "expected: evidence 1 NAME N, with N from 1 to 256",
         _ => "expected: history F NAME N, with F 1 or 2, and N from 1 to 64 or to 256",
     };
     match help.words {
@@ -203,43 +186,22 @@ fn add_first_line(help: &mut Help) -> Result<()> {
 
 // Whether the words are those of a line that only evidence has.
 fn is_of_evidence(words: &[&[u8]]) -> bool {
-    match words {
-        [first, ..] if is_word(first, b"behaviour") => true,
-        [_, second, ..] => is_word(second, b"#") || is_word(second, b"!"),
-        _ => false,
-    }
-}
-
-// Whether a space is at this place that is one too many: at an end of the line, or after another one.
-fn is_extra(line: &[u8], at: usize) -> bool
-    requires { at < length line.now }
-    ensures is { result ≡ true → (slice_index line.now at ≡ 32)
-        × ((at ≡ 0) ⊎ ((at + 1 ≡ length line.now) ⊎ (slice_index line.now (at - 1) ≡ 32))) }
-    ensures not_one { result ≡ false → slice_index line.now at ≡ 32
-        → (at ≢ 0) × ((at + 1 ≢ length line.now) × (slice_index line.now (at - 1) ≢ 32)) }
-{
-    line[at] == b' ' && (at == 0 || at + 1 == line.len() || line[at - 1] == b' ')
+    matches!(words, [b"behaviour", ..] | [_, b"#" | b"!", ..])
 }
 
 // How many bytes are before the first space after a space, or at an end of the line.
-fn space_of(line: &[u8]) -> usize
-    ensures within { result ≤ length line.now }
-    ensures first { (at : ℕ) → at < result → slice_index line.now at ≡ 32
-        → (at ≢ 0) × ((at + 1 ≢ length line.now) × (slice_index line.now (at - 1) ≢ 32)) }
-    ensures extra { result < length line.now → (slice_index line.now result ≡ 32)
-        × ((result ≡ 0) ⊎ ((result + 1 ≡ length line.now) ⊎ (slice_index line.now (result - 1) ≡ 32))) }
-{
-    for at in 0..line.len() {
-        if is_extra(line, at) {
-            return at;
-        }
-    }
-    line.len()
+fn extra_space(line: &[u8]) -> usize {
+    let mut pairs = b" ".iter().chain(line).zip(line).enumerate();
+    let last = line.len().saturating_sub(1);
+    let found = pairs.position(|(at, (before, byte))| {
+        *byte == b' ' && (*before == b' ' || at == last)
+    });
+    found.unwrap_or(line.len())
 }
 
 // Adds what helps with a line of moves or histories.
 fn add_spaced(help: &mut Help) -> Result<()> {
-    let space = space_of(help.line);
+    let space = extra_space(help.line);
     match help.around.refusal {
         Refusal::Histories(TextKind::Entry) if is_of_evidence(help.words) => help.add_line(
             "evidence has such a line: RUN # TEXT, RUN ! TEXT, or behaviour RUN NAME before others of the run",
@@ -247,8 +209,8 @@ fn add_spaced(help: &mut Help) -> Result<()> {
         _ if space < help.line.len() => {
             help.add_counted("column ", space.saturating_add(1), ": a space too many")
         }
-        Refusal::Histories(TextKind::Entry) => add_call(help, Sort::Histories, Slot::Entry),
-        Refusal::Moves(TextKind::Move) => add_call(help, Sort::Moves, Slot::Run),
+        Refusal::Histories(TextKind::Entry) => add_call(help, Slot::Entry),
+        Refusal::Moves(TextKind::Move) => add_call(help, Slot::Run),
         Refusal::Histories(TextKind::FirstLine) => add_first_line(help),
         Refusal::Moves(TextKind::FirstLine) => {
             help.add_line("expected: behaviours N, with N from 1 to 256")

@@ -68,26 +68,19 @@ pub(crate) fn quoted_rest(alloc: Global, bytes: &[u8]) -> Result<Vec<u8>> {
     Ok(out)
 }
 
-// The name of what begins with an odd byte, if it has one.
-fn name_of(bytes: &[u8]) -> Option<&'static str> {
-    match bytes {
-        [13, ..] => Some("a carriage return; a line ends with a line feed only"),
-        [9, ..] => Some("a tab; a line has spaces only"),
-        [0, ..] => Some("a zero byte, as UTF-16 has them"),
-        [239, 187, 191, ..] => Some("a byte order mark"),
-        [255, 254, ..] | [254, 255, ..] => Some("a byte order mark of UTF-16"),
-        _ => None,
-    }
-}
-
 /// Appends the name of what begins with an odd byte, otherwise the number of that byte.
 pub(crate) fn append_odd(out: &mut Vec<u8>, bytes: &[u8]) -> Result<()> {
-    match (name_of(bytes), bytes.first()) {
-        (Some(name), _) => append_text(out, name),
-        (None, Some(byte)) => {
+    let name = match bytes {
+        [13, ..] => "a carriage return; a line ends with a line feed only",
+        [9, ..] => "a tab; a line has spaces only",
+        [0, ..] => "a zero byte, as UTF-16 has them",
+        [239, 187, 191, ..] => "a byte order mark",
+        [255, 254, ..] | [254, 255, ..] => "a byte order mark of UTF-16",
+        [byte, ..] => {
             append_text(out, "the byte ")?;
-            append_hex(out, *byte)
+            return append_hex(out, *byte);
         }
-        (None, None) => Ok(()),
-    }
+        [] => "",
+    };
+    append_text(out, name)
 }

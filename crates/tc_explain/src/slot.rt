@@ -2,7 +2,7 @@
 use crate::Result;
 use crate::sort::Sort;
 use std::alloc::Global;
-use tc_reader::{Keyword, is_word, read_keyword, read_name, read_reference, read_words};
+use tc_reader::{Keyword, is_word, read_keyword, read_name, read_reference};
 
 /// What may be at a place of a line.
 #[derive(Clone, Copy, PartialEq, Eq)]
@@ -43,11 +43,15 @@ const VERBS: &str =
 const ERRORS: &str =
     "no-component not-main start-main already-running not-startable no-behaviour too-many stuck";
 
+/// Whether the byte is a space.
+pub(crate) fn is_space(byte: &u8) -> bool {
+    *byte == b' '
+}
+
 /// Whether the text has this word.
 pub(crate) fn has_word(text: &str, word: &[u8]) -> bool {
-    text.as_bytes()
-        .split(|byte| *byte == b' ')
-        .any(|other| is_word(other, word))
+    let mut words = text.as_bytes().split(is_space);
+    words.any(|other| is_word(other, word))
 }
 
 /// Whether the word is of digits.
@@ -72,8 +76,8 @@ fn after_verb(word: &[u8], created: Slot) -> Slot {
 }
 
 impl Slot {
-    // The words that may be there, besides names and numbers, and what is printed after those that are listed.
-    fn texts(self) -> (&'static str, &'static str) {
+    /// The words that may be there, besides names and numbers, and what is printed after those that are listed.
+    pub(crate) fn texts(self) -> (&'static str, &'static str) {
         match self {
             Slot::Keyword => (KEYWORDS, ""),
             Slot::Run => ("", "the number of a run"),
@@ -108,55 +112,38 @@ impl Slot {
         }
     }
 
-    // The slot after one of these words.
-    fn after_word(self, word: &[u8]) -> Slot {
-        match self {
-            Slot::Keyword => after_verb(word, Slot::Created),
-            Slot::Verb => after_verb(word, Slot::Kind),
-            Slot::Entry => Slot::Overall,
-            Slot::Kind if is_word(word, b"alive") => Slot::Naming,
-            Slot::Kind | Slot::Naming => Slot::GivenName,
-            Slot::Status => Slot::Target,
-            Slot::Group | Slot::Target | Slot::Verdict => Slot::End,
-            Slot::Reply if is_word(word, b"made") => Slot::Made,
-            Slot::Reply if is_word(word, b"error") => Slot::Error,
-            _ => Slot::LineEnd,
-        }
-    }
-
-    // The slot after a name or a number, if such a one may be there. A script has names of components and behaviours.
-    fn after_other(self, in_script: bool, word: &[u8]) -> Option<Slot> {
+    // The slot after a word, if it may be there. A script has names of components and behaviours.
+    fn after(self, sort: Sort, word: &[u8]) -> Option<Slot> {
+        let is_listed = has_word(self.texts().0, word);
         let is_number = is_digits(word);
         let is_name = read_name(word).is_some();
-        let is_behaviour = if in_script { is_name } else { is_number };
-        let is_component = if in_script {
-            read_reference(word).is_ok()
-        } else {
-            is_number
+        let (is_behaviour, is_component) = match sort {
+            Sort::Script => (is_name, read_reference(word).is_ok()),
+            _ => (is_number, is_number),
         };
-        match self {
-            Slot::Run | Slot::Entry if is_number => Some(Slot::Verb),
-            Slot::Made if is_number => Some(Slot::LineEnd),
-            Slot::TestCase | Slot::GivenName if is_name => Some(Slot::End),
-            Slot::Behaviour | Slot::Parameters if is_name => Some(Slot::Parameters),
-            Slot::Created if is_name => Some(Slot::Kind),
-            Slot::On if is_component => Some(Slot::Started),
-            Slot::Started if is_behaviour => Some(Slot::Arguments),
-            Slot::Arguments if is_component => Some(Slot::Arguments),
-            Slot::Group | Slot::Target if is_component => Some(Slot::End),
-            _ => None,
-        }
-    }
-
-    // The slot after a word, if it may be there.
-    fn after(self, sort: Sort, word: &[u8]) -> Option<Slot> {
-        if has_word(self.texts().0, word) {
-            return Some(self.after_word(word));
-        }
-        if sort == Sort::Histories && self.ends_call() && is_word(word, b"->") {
-            return Some(Slot::Reply);
-        }
-        self.after_other(sort == Sort::Script, word)
+        Some(match self {
+            _ if sort == Sort::Histories && self.ends_call() && is_word(word, b"->") => Slot::Reply,
+            Slot::Keyword if is_listed => after_verb(word, Slot::Created),
+            Slot::Verb if is_listed => after_verb(word, Slot::Kind),
+            Slot::Run | Slot::Entry if is_number => Slot::Verb,
+            Slot::Entry if is_listed => Slot::Overall,
+            Slot::TestCase | Slot::GivenName if is_name => Slot::End,
+            Slot::Behaviour | Slot::Parameters if is_name => Slot::Parameters,
+            Slot::Created if is_name => Slot::Kind,
+            Slot::Kind if is_word(word, b"alive") => Slot::Naming,
+            Slot::Kind | Slot::Naming if is_listed => Slot::GivenName,
+            Slot::On if is_component => Slot::Started,
+            Slot::Started if is_behaviour => Slot::Arguments,
+            Slot::Arguments if is_component => Slot::Arguments,
+            Slot::Status if is_listed => Slot::Target,
+            Slot::Group | Slot::Target | Slot::Verdict if is_listed => Slot::End,
+            Slot::Group | Slot::Target if is_component => Slot::End,
+            Slot::Reply if is_word(word, b"made") => Slot::Made,
+            Slot::Reply if is_word(word, b"error") => Slot::Error,
+            Slot::Reply | Slot::Error | Slot::Overall if is_listed => Slot::LineEnd,
+            Slot::Made if is_number => Slot::LineEnd,
+            _ => return None,
+        })
     }
 
     /// What is printed about it after the words that are listed. In a history that is the arrow if a call may end there,
@@ -184,45 +171,24 @@ impl Slot {
             _ => self.ends_call(),
         }
     }
-
-    /// Whether its words are listed.
-    pub(crate) fn lists(self) -> bool {
-        matches!(self, Slot::Keyword | Slot::Verb | Slot::Reply | Slot::Error)
-    }
-
-    /// Those words.
-    pub(crate) fn words(self, alloc: Global) -> Result<Vec<&'static [u8]>> {
-        let mut words = Vec::new(alloc);
-        read_words(self.texts().0.as_bytes(), &mut words)?;
-        Ok(words)
-    }
 }
 
-/// The slots of the first words of a line of a text of this sort, which may be where they are, and the one after them.
-#[derive(Drop)]
-pub(crate) struct Walk {
-    pub(crate) sort: Sort,
-    pub(crate) slots: Vec<Slot>,
-    pub(crate) last: Slot,
-}
-
-impl Walk {
-    /// The slots of these words, the first of which is at this one, as far as each may be where it is.
-    pub(crate) fn new(alloc: Global, sort: Sort, first: Slot, words: &[&[u8]]) -> Result<Walk> {
-        let mut slots = Vec::new(alloc);
-        let mut last = first;
-        for word in words {
-            let Some(next) = last.after(sort, word) else {
-                return Ok(Walk { sort, slots, last });
-            };
-            slots.push(last)?;
-            last = next;
-        }
-        Ok(Walk { sort, slots, last })
+/// The slots of the first words of a line of a text of this sort, which begins with this slot, as far as each may be where
+/// it is, and the slot after them.
+pub(crate) fn slots_of(
+    alloc: Global,
+    sort: Sort,
+    first: Slot,
+    words: &[&[u8]],
+) -> Result<(Vec<Slot>, Slot)> {
+    let mut slots = Vec::new(alloc);
+    let mut slot = first;
+    for word in words {
+        let Some(next) = slot.after(sort, word) else {
+            break;
+        };
+        slots.push(slot)?;
+        slot = next;
     }
-
-    /// Whether the words are a line.
-    pub(crate) fn is_whole(&self, words: &[&[u8]]) -> bool {
-        words.len() <= self.slots.len() && self.last.ends_line(self.sort)
-    }
+    Ok((slots, slot))
 }

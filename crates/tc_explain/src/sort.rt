@@ -1,7 +1,6 @@
 //! What a text should be, and what it seems to be.
-use crate::Result;
-use std::alloc::Global;
-use tc_reader::{Keyword, Lines, ScriptKind, is_comment, is_word, read_words};
+use crate::slot::is_space;
+use tc_reader::{ScriptKind, is_comment};
 use tc_text::TextKind;
 
 /// A sort of texts.
@@ -53,32 +52,20 @@ impl Sort {
     }
 }
 
-// What a text seems to be whose first line that says something begins with this word.
-fn begun_sort(word: &[u8], line: &[u8]) -> Option<Sort> {
-    if is_word(word, b"history") || is_word(word, b"evidence") {
-        Some(Sort::Histories)
-    } else if is_word(word, b"behaviours") {
-        Some(Sort::Moves)
-    } else if is_word(word, b"module") || word.starts_with(b"/") {
-        Some(Sort::Source)
-    } else if is_word(word, Keyword::TestCase.text().as_bytes()) {
-        let source = line.contains(&b'(');
-        Some(if source { Sort::Source } else { Sort::Script })
-    } else {
-        None
-    }
-}
-
 /// What the text seems to be by the first line that says something.
-pub(crate) fn seen_sort(alloc: Global, text: &[u8]) -> Result<Option<Sort>> {
-    let mut words = Vec::new(alloc);
-    let mut rest = Lines::new(text);
-    while let Some(line) = rest.next() {
-        read_words(line, &mut words)?;
-        match words.as_slice() {
-            [first, ..] if !is_comment(first) => return Ok(begun_sort(first, line)),
-            _ => {}
-        }
-    }
-    Ok(None)
+pub(crate) fn seen_sort(text: &[u8]) -> Option<Sort> {
+    let lines = text.split(|byte| *byte == b'\n');
+    let mut begun = lines.filter_map(|line| {
+        let word = line.split(is_space).find(|word| !word.is_empty())?;
+        Some((word, line))
+    });
+    let (word, line) = begun.find(|(word, _)| !is_comment(word))?;
+    Some(match word {
+        b"history" | b"evidence" => Sort::Histories,
+        b"behaviours" => Sort::Moves,
+        b"module" | [b'/', ..] => Sort::Source,
+        b"testcase" if line.contains(&b'(') => Sort::Source,
+        b"testcase" => Sort::Script,
+        _ => return None,
+    })
 }

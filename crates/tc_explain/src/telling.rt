@@ -69,11 +69,8 @@ fn append_odd_at(out: &mut Vec<u8>, line: &[u8], at: usize) -> Result<(), NoMemo
     append_odd(&mut what, &line[at..])?;
     let number = Part::Number(at as u64 + 1);
     let what = Part::Text(what.as_slice());
-    append_parts(
-        alloc,
-        out,
-        &[Part::Text(b"column"), number, Part::Text(b":"), what],
-    )
+    let parts = [Part::Text(b"column"), number, Part::Text(b":"), what];
+    append_parts(alloc, out, &parts)
 }
 
 // Appends that the text ends before the line with this number.
@@ -124,25 +121,21 @@ fn append_line(out: &mut Vec<u8>, around: Around, line: Option<&[u8]>) -> Result
     }
 }
 
-// What began in a line where a text of this sort has something open.
-fn begun(sort: Sort) -> &'static str {
-    match sort {
-        Sort::Histories => "a history began in line",
-        _ => "a test case began in line",
-    }
-}
-
-// Appends what is open.
+// Appends what is open in a text of this sort.
 #[tactic(auto, using(tc_text::proofs::Lemmas::Among::among_rules))]
 fn append_opened(out: &mut Vec<u8>, sort: Sort, opened: Opened) -> Result<(), NoMemory>
     ensures { OnOk result (TellsAmong (open_note opened) out.old.items out.new.items) }
 {
+    let begun = match sort {
+        Sort::Histories => "a history began in line",
+        _ => "a test case began in line",
+    };
     match opened {
         Opened::Nothing => Ok(()),
-        Opened::Begun(outer, _) => append_numbered(out, begun(sort), outer),
+        Opened::Begun(outer, _) => append_numbered(out, begun, outer),
         Opened::Inside(outer, inner) => {
             append_numbered(out, "a behaviour began in line", inner)?;
-            append_numbered(out, begun(sort), outer)
+            append_numbered(out, begun, outer)
         }
     }
 }
@@ -162,7 +155,7 @@ pub fn explain(
     ensures { IfOk result (λ v. TellsAmong (explanation text.now number) [] v.items) }
 {
     let sort = refusal.sort();
-    let seen = seen_sort(alloc, text)?;
+    let seen = seen_sort(text);
     let found = find_line(alloc, text, number)?;
     let around = Around {
         text,
