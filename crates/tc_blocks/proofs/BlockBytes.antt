@@ -1,7 +1,7 @@
 -- How many bytes of a block have come.
 use Rattle.std.{proofs.{Common.{ℕ, Bool, true, false, ◌≡◌, ◌≢◌, ◌==◌, ◌⊎◌, inl, inr, ◌&&◌, ◌∙◌, ◌+◌, ◌<◌, ◌≤◌, if◌then◌else◌, List, [], ◌∷◌, ◌++◌, ap, drop, get_or, length, subst, sym, take, refl, append_assoc}, lemmas.{Bool.{Decides.eqb_tells, eq-eqb, le-ltb, lt-ltb}, List.{append-nil, take-append-drop, take_more}}, Math.Seq.drop-cons}, specs.Prelude.{nat_eq, nat_lt}}
 use native.Mathlib.Numerals.{unary_clauses}
-use Rattle.tc_blocks.specs.{Inside.{IsOpenAfter, is_due}, Limit.{blocks_fit, ends_block, may_come}, declared.limit.OpenBytes.OpenBytes}
+use Rattle.tc_blocks.specs.{Inside.{IsOpenAfter, blocks_fit, ends_block, is_due}, Limit.may_come, declared.limit.OpenBytes.OpenBytes}
 
 not_same : (a b : ℕ) → a ≢ b → (a == b) ≡ false
 not_same a b other = go (eqb_tells a b)

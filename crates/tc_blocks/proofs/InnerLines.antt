@@ -1,8 +1,8 @@
 -- The lines of entries and the last line of a block.
-use Rattle.std.proofs.Common.{ℕ, ◌≡◌, ◌↔◌, ◌∙◌, List, [], ◌∷◌, ◌++◌, codes, ap, sym, refl, append_assoc, arith, rules, subst, reverse}
+use Rattle.std.proofs.Common.{Bool, ℕ, ◌≡◌, ◌↔◌, ◌∙◌, List, [], ◌∷◌, ◌++◌, codes, ap, sym, refl, append_assoc, arith, rules, subst, reverse}
 use Rattle.tc_rules.specs.Prelude.{Run, Verdict, name_of, Entry, Op, Fault, Reply, fault_name, overall, IsLegal}
 use Rattle.tc_text.{specs.{declared.short.ShortOp.ShortOp, Prelude.{lines_of, EndsMove, EndsLine, op_of, move_text, reply_text, IsReply}}, proofs.Lemmas.LinesOf.{NoLf, line_ended, no_lf-append, same_behind, move_plain, number_plain, some_move}}
-use Rattle.tc_blocks.{specs.{HistoryBlock.{end_text, entry_text}, Inside.outcome_text, HistoryText.{IsUnnamed, IsEntry}, Laws.{LinesAreLegal, overall_of}, Line.{entries_of, entry_in}, declared.line.Line.Line}, proofs.Lemmas.{Bytes.{BeginsWith, begins_with}, Notes.first_is}}
+use Rattle.tc_blocks.{specs.{HistoryBlock.{end_text, entry_text}, Inside.{IsUnnamed, outcome_text}, HistoryText.IsEntry, Laws.{LinesAreLegal, overall_of}, Line.{entries_of, entry_in}, declared.line.Line.Line}, proofs.Lemmas.{Bytes.{BeginsWith, begins_with}, Notes.first_is}}
 
 pub verdict_plain : (v : Verdict) → NoLf (name_of v)
 verdict_plain Verdict.None = search rules
@@ -66,10 +66,10 @@ second_is : (x y z : ℕ) (w : ℕ) (xs ys : List ℕ) → x ∷ y ∷ xs ≡ z 
 second_is x y z w xs ys e = cc
 
 pub ends_arrow : (rest : List ℕ) → EndsMove (codes " -> " ++ rest)
-ends_arrow rest = record {
-  number = λ b after e. let same : ◌≡◌ {A = ℕ} 32 b = first_is 32 b (45 ∷ 62 ∷ 32 ∷ rest) after e in omega (arith, same);
-  word = λ b after e. let same : ◌≡◌ {A = ℕ} 45 b = second_is 32 45 32 b (62 ∷ 32 ∷ rest) after e in omega (arith, same);
-}
+ends_arrow rest = (
+  λ b after e. let same : ◌≡◌ {A = ℕ} 32 b = first_is 32 b (45 ∷ 62 ∷ 32 ∷ rest) after e in omega (arith, same),
+  λ b after e. let same : ◌≡◌ {A = ℕ} 45 b = second_is 32 45 32 b (62 ∷ 32 ∷ rest) after e in omega (arith, same),
+)
 
 pub behind_arrow : (xs ys : List ℕ) → codes " -> " ++ xs ≡ codes " -> " ++ ys → xs ≡ ys
 behind_arrow xs ys e = cc
@@ -124,6 +124,14 @@ same_parts run op reply e caller operation replied = rw (caller, operation, repl
 pub short_unnamed : (s : ShortOp) → IsUnnamed (op_of s)
 short_unnamed (ShortOp.Create alive) = tt
 short_unnamed _ = tt
+
+pub no_name : (op : Op) → IsUnnamed op → (alive : Bool) (name : List ℕ) → op ≢ Op.Create alive (Some name)
+no_name op is alive name e = subst (λ (o : Op). IsUnnamed o) e is
+
+pub unnamed : (op : Op) → ((alive : Bool) (name : List ℕ) → op ≢ Op.Create alive (Some name)) → IsUnnamed op
+unnamed (Op.Create alive (Some name)) no = no alive name refl
+unnamed (Op.Create alive None) no = tt
+unnamed _ no = tt
 
 pub same_entries : (before after : List Line) (l : Line) → entry_in l ≡ [] → entries_of (before ++ l ∷ after) ≡ entries_of (before ++ after)
 same_entries [] after l none = ap (λ x. x ++ entries_of after) none

@@ -80,22 +80,22 @@ pub note_of_said : (n : ℕ) (before : List Line) (text : List ℕ) → IsNoNami
 note_of_said n before text none None is = none_by
   where
     none_by : IsNone (IsNote n before) text
-    none_by (Line.Named run name) others fits lines = none run.0 name others fits.1.few fits.1.name_is lines
+    none_by (Line.Named run name) others fits lines = none run.0 name others fits.1.1 fits.1.2 lines
     none_by (Line.Entry e) others fits lines = absurd fits.0
-    none_by (Line.Remark run sentence) others fits lines = is (Line.Remark run sentence) others (fits.1.few, fits.1.sentence_is) lines
-    none_by (Line.Refused run sentence) others fits lines = is (Line.Refused run sentence) others (fits.1.few, fits.1.sentence_is) lines
+    none_by (Line.Remark run sentence) others fits lines = is (Line.Remark run sentence) others (fits.1.1, fits.1.2) lines
+    none_by (Line.Refused run sentence) others fits lines = is (Line.Refused run sentence) others (fits.1.1, fits.1.2) lines
 note_of_said n before text none (Some r) is = record { spelled = is.spelled; fits = fits_by r.0 is.fits; less = is.less; only = only_by }
   where
     fits_by : (l : Line) → IsSaidBy n l → IsNote n before l
-    fits_by (Line.Remark run sentence) said = (tt, record { evidence = refl; few = said.0; sentence_is = said.1 })
-    fits_by (Line.Refused run sentence) said = (tt, record { evidence = refl; few = said.0; sentence_is = said.1 })
+    fits_by (Line.Remark run sentence) said = (tt, (refl, said.0, said.1))
+    fits_by (Line.Refused run sentence) said = (tt, (refl, said.0, said.1))
     fits_by _ said = absurd said
 
     only_by : (m : Line) (others : List (List ℕ)) → IsNote n before m → lines_of text ≡ line_text m ∷ others → (r.0 ≡ m) × (lines_of r.1.now ≡ others)
-    only_by (Line.Named run name) others fits lines = absurd (none run.0 name others fits.1.few fits.1.name_is lines)
+    only_by (Line.Named run name) others fits lines = absurd (none run.0 name others fits.1.1 fits.1.2 lines)
     only_by (Line.Entry e) others fits lines = absurd fits.0
-    only_by (Line.Remark run sentence) others fits lines = is.only (Line.Remark run sentence) others (fits.1.few, fits.1.sentence_is) lines
-    only_by (Line.Refused run sentence) others fits lines = is.only (Line.Refused run sentence) others (fits.1.few, fits.1.sentence_is) lines
+    only_by (Line.Remark run sentence) others fits lines = is.only (Line.Remark run sentence) others (fits.1.1, fits.1.2) lines
+    only_by (Line.Refused run sentence) others fits lines = is.only (Line.Refused run sentence) others (fits.1.1, fits.1.2) lines
 
 -- reading a name shows that the first line is no other name
 abbrev pub IsThatNaming : ℕ → List ℕ → Run × List ℕ → List ℕ → Type 0
@@ -118,11 +118,11 @@ late_naming n before text p rest small spelled only met = none_by
   where
     none_by : IsNone (IsNote n before) text
     none_by (Line.Named r name) others fits lines =
-        let two = only r.0 name others fits.1.few fits.1.name_is lines in
-        other_met (is_met p.0.0 before) (is_met r.0 before) met fits.1.first (ap (λ (x : Run × List ℕ). is_met x.0.0 before) two.0)
+        let two = only r.0 name others fits.1.1 fits.1.2 lines in
+        other_met (is_met p.0.0 before) (is_met r.0 before) met fits.1.3 (ap (λ (x : Run × List ℕ). is_met x.0.0 before) two.0)
     none_by (Line.Entry e) others fits lines = absurd fits.0
-    none_by (Line.Remark r sentence) others fits lines = never_said n text p rest small spelled false r.0 sentence others fits.1.few lines
-    none_by (Line.Refused r sentence) others fits lines = never_said n text p rest small spelled true r.0 sentence others fits.1.few lines
+    none_by (Line.Remark r sentence) others fits lines = never_said n text p rest small spelled false r.0 sentence others fits.1.1 lines
+    none_by (Line.Refused r sentence) others fits lines = never_said n text p rest small spelled true r.0 sentence others fits.1.1 lines
 
 abbrev naming : Run × List ℕ → Line
 naming p = Line.Named p.0 p.1
@@ -130,13 +130,13 @@ naming p = Line.Named p.0 p.1
 named_next : (n : ℕ) (before : List Line) (text : List ℕ) (p : Run × List ℕ) (rest : List ℕ) → n < 2 ^ 16 → lines_of text ≡ naming_text p.0.0 p.1 ∷ lines_of rest → (p.0.0 < n) × IsName p.1 → length rest < length text → IsThatNaming n text p rest →
     is_met p.0.0 before ≡ false → IsNext (IsNote n before) text (Line.Named p.0 p.1) rest
 named_next n before text p rest small spelled fits less only new =
-    record { spelled = spelled; fits = (tt, record { evidence = refl; few = fits.0; name_is = fits.1; first = new }); less = less; only = that }
+    record { spelled = spelled; fits = (tt, (refl, fits.0, fits.1, new)); less = less; only = that }
   where
     that : (m : Line) (others : List (List ℕ)) → IsNote n before m → lines_of text ≡ line_text m ∷ others → (Line.Named p.0 p.1 ≡ m) × (lines_of rest ≡ others)
-    that (Line.Named r name) others is lines = let two = only r.0 name others is.1.few is.1.name_is lines in (ap naming two.0, two.1)
+    that (Line.Named r name) others is lines = let two = only r.0 name others is.1.1 is.1.2 lines in (ap naming two.0, two.1)
     that (Line.Entry e) others is lines = absurd is.0
-    that (Line.Remark r sentence) others is lines = absurd (never_said n text p rest small spelled false r.0 sentence others is.1.few lines)
-    that (Line.Refused r sentence) others is lines = absurd (never_said n text p rest small spelled true r.0 sentence others is.1.few lines)
+    that (Line.Remark r sentence) others is lines = absurd (never_said n text p rest small spelled false r.0 sentence others is.1.1 lines)
+    that (Line.Refused r sentence) others is lines = absurd (never_said n text p rest small spelled true r.0 sentence others is.1.1 lines)
 
 -- what is made of a name: a line, unless it comes too late
 pub note_of_naming : (n : ℕ) (before : List Line) (text : List ℕ) (p : Run × List ℕ) (rest : List ℕ) → n < 2 ^ 16 → lines_of text ≡ naming_text p.0.0 p.1 ∷ lines_of rest → (p.0.0 < n) × IsName p.1 → length rest < length text → IsThatNaming n text p rest →
@@ -163,9 +163,9 @@ entry_next kind n before text e rest small spelled is less only = record { spell
         absurd (entry_not_naming (format_of kind) e run.0 name is (head_is (entry_text e) (naming_text run.0 name) (lines_of rest) others (sym spelled ∙ lines)))
     that (Line.Entry t) others fits lines = let two = only t others fits lines in (ap entry two.0, two.1)
     that (Line.Remark run sentence) others fits lines =
-        absurd (entry_not_said (format_of kind) e false run.0 sentence is (low run.0 n fits.few small) (head_is (entry_text e) (said_text false run.0 sentence) (lines_of rest) others (sym spelled ∙ lines)))
+        absurd (entry_not_said (format_of kind) e false run.0 sentence is (low run.0 n fits.1 small) (head_is (entry_text e) (said_text false run.0 sentence) (lines_of rest) others (sym spelled ∙ lines)))
     that (Line.Refused run sentence) others fits lines =
-        absurd (entry_not_said (format_of kind) e true run.0 sentence is (low run.0 n fits.few small) (head_is (entry_text e) (said_text true run.0 sentence) (lines_of rest) others (sym spelled ∙ lines)))
+        absurd (entry_not_said (format_of kind) e true run.0 sentence is (low run.0 n fits.1 small) (head_is (entry_text e) (said_text true run.0 sentence) (lines_of rest) others (sym spelled ∙ lines)))
 
 -- if the first line is no entry, only another line of evidence is left
 pub line_of_note : (n : ℕ) (before : List Line) (text : List ℕ) → IsNoEntryLine 2 text → (found : Option (Line × Bor (List ℕ))) → IsFound (IsNote n before) text found → IsFound (IsLine Kind.Evidence n before) text found

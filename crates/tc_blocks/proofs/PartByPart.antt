@@ -1,8 +1,8 @@
 -- Blocks, read part by part.
 use Rattle.std.{proofs.{Common.{ℕ, Bool, ◌≡◌, ◌≢◌, ◌∙◌, ◌+◌, ◌<◌, ◌≤◌, ◌^◌, ◌⊎◌, inl, inr, true, false, is_some, Option, None, Some, List, [], ◌∷◌, ◌++◌, length, map, ap, sym, subst, refl, append_assoc, arith}, lemmas.List.{append-nil, length-append, length-map, map-append, nil_from_length}}, specs.Borrow.Bor}
 use Rattle.tc_rules.specs.Prelude.{Verdict}
-use Rattle.tc_text.{specs.{declared.fault.{TextFault.TextFault, TextKind.TextKind}, Prelude.lines_of}, proofs.Lemmas.LinesOf.some_line}
-use Rattle.tc_blocks.{specs.{Block.header_text, HistoryBlock.end_text, Inside.{AreInside, AreRead, AreTakenBy, GoesOn, IsBadInside, IsFirst, IsInsideFault, IsOpenTo, IsOpened, IsReadBy, IsReadOn, IsReadTo, IsRefused, IsWholeOf, Others, Refuses, Remains, open_lines, opened}, Line.line_text, Met.AreMet, Text.{AreBlocks, AreLines, AreWhole, CanContinue, IsBlock, IsFault, IsFaultAfter, IsFaultAt, IsLine, IsTextOf, all_lines, block_lines}, declared.{block.Block.Block, header.{Header.Header, Kind.Kind}, line.Line.Line, met.MetRuns.MetRuns, reading.{OpenBlock.OpenBlock, Reading.Reading}}}, proofs.{InsideLines.{head_is, none_yet, tail_is}, Lemmas.Notes.line_no_end}}
+use Rattle.tc_text.{specs.{declared.fault.{TextFault.TextFault, TextKind.TextKind}, Prelude.{CanContinue, IsFaultAfter, lines_of}}, proofs.Lemmas.LinesOf.some_line}
+use Rattle.tc_blocks.{specs.{Block.header_text, HistoryBlock.end_text, Inside.{AreInside, AreRead, AreTakenBy, GoesOn, IsBadInside, IsFirst, IsInsideFault, IsOpenTo, IsOpened, IsReadBy, IsReadOn, IsReadTo, IsRefused, IsWholeOf, Others, Refuses, Remains, all_lines, open_lines, opened}, Line.line_text, Met.AreMet, Text.{AreBlocks, AreLines, AreWhole, IsBlock, IsFault, IsLine, IsTextOf, block_lines}, declared.{block.Block.Block, header.{Header.Header, Kind.Kind}, line.Line.Line, met.MetRuns.MetRuns, reading.{OpenBlock.OpenBlock, Reading.Reading}}}, proofs.{InsideLines.{head_is, none_yet, tail_is}, Lemmas.Notes.line_no_end}}
 
 -- the first line is none that a block may have
 abbrev pub IsNoHeaderLine : (Header → Type 0) → List ℕ → Type 0
@@ -142,11 +142,11 @@ bad_header stands opens may before text made line some none so whole future is =
   number = let number = so.read.number in let here = so.place.1 in let lines = ap length so.place.0 in omega (arith, number, here, lines);
   right = ([], (so.blocks, so.read.fits, append-nil before ∙ so.place.0));
   fault = (
-    (so.blocks, so.read.fits, so.place.0),
     λ can.
         let whole = can.1 in
         let others = so.read.only (bad.0 ∷ can.0) whole.0 whole.1 (ap (λ x. x ++ bad.0 ∷ can.0) (sym so.place.0) ∙ (sym (append_assoc before (bad.0 ∷ []) can.0) ∙ whole.2)) in
         by_tail can.0 others.tail others.spelled others.fits,
+    inl (refl, (so.blocks, so.read.fits, so.place.0)),
   );
 }
   where
@@ -251,7 +251,7 @@ module _ (may : Header → Type 0) (blocks : List Block) (at : ℕ) (h : Header)
       by_tail [] spelled right = absurd cc
       by_tail (t ∷ ts) spelled right = let that = begins may at h inside more t (all_lines ts) only so right.0 spelled in (t, all_lines ts, that.remains)
 
-  open_continues : CanContinue may lines_so
+  open_continues : CanContinue (AreWhole may) lines_so
   open_continues =
       let number = read.number in
       let b = make h at inside Verdict.None in (
@@ -271,7 +271,7 @@ module _ (may : Header → Type 0) (blocks : List Block) (at : ℕ) (h : Header)
       by_tail b others (x ∷ xs) spelled = cc
 
   -- neither a line that may come nor a last line
-  bad_next : (bad : List ℕ) → ((l : Line) → IsLine h.kind h.behaviours inside l → bad ≢ line_text l) → ((v : Verdict) → bad ≢ end_text v) → CanContinue may (lines_so ++ bad ∷ []) → ⊥
+  bad_next : (bad : List ℕ) → ((l : Line) → IsLine h.kind h.behaviours inside l → bad ≢ line_text l) → ((v : Verdict) → bad ≢ end_text v) → CanContinue (AreWhole may) (lines_so ++ bad ∷ []) → ⊥
   bad_next bad no_line no_end can =
       let next = continued (bad ∷ can.0) (subst (λ (x : List (List ℕ)). AreWhole may x) (append_assoc lines_so (bad ∷ []) can.0) can.1) in
       by_tail next.0 next.1 next.2.tail next.2.spelled next.2.right
@@ -295,7 +295,10 @@ bad_line_refused may blocks at line h inside before text read header only before
       let here = bad.number in
       omega (arith, number, here, length-append (all_lines blocks) (open_lines h bad.all), length-map bad.all line_text);
   right = open_continues may blocks at h bad.all read header only bad.read;
-  fault = (open_is_not_whole may blocks at h bad.all read header only bad.read, bad_next may blocks at h bad.all read header only bad.read bad.bad_line bad.no_line bad.no_end);
+  fault = (
+    bad_next may blocks at h bad.all read header only bad.read bad.bad_line bad.no_line bad.no_end,
+    inr (refl, open_is_not_whole may blocks at h bad.all read header only bad.read),
+  );
 }
   where
     longer : before ++ map line_text bad.taken ≡ all_lines blocks ++ open_lines h bad.all
@@ -360,21 +363,21 @@ whole_read stands opens may text made line later so = record {
     by_tail all (t ∷ ts) parts spelled = absurd cc
 
 early_none : {H O : Type 0} (stands : List Block → H → Type 0) (opens : ℕ → Header → List Line → O → Type 0) (may : Header → Type 0) (text : List ℕ) (made : H) (line : ℕ) →
-    line ≡ 1 → IsReadTo {O = O} stands opens may (lines_of text) made None line → IsFaultAt may text line TextKind.Early
+    line ≡ 1 → IsReadTo {O = O} stands opens may (lines_of text) made None line → IsFault may text (TextFault.At line TextKind.Early)
 early_none stands opens may text made line first so = record {
   before = [];
   rest = [];
   lines = let number = so.read.number in let here = so.place.1 in so.place.0 ∙ nil_from_length (all_lines so.blocks) (omega (arith, number, here, first));
   number = first;
   right = ([], ([], tt, refl));
-  fault = λ whole. refl;
+  fault = (refl, λ whole. refl);
 }
 
 early_open : {H O : Type 0} (stands : List Block → H → Type 0) (opens : ℕ → Header → List Line → O → Type 0) (may : Header → Type 0) (text : List ℕ) (made : H) (line : ℕ) (block : OpenBlock O) →
-    IsReadTo stands opens may (lines_of text) made (Some block) line → IsFaultAt may text line TextKind.Early
+    IsReadTo stands opens may (lines_of text) made (Some block) line → IsFault may text (TextFault.At line TextKind.Early)
 early_open {H} {O} stands opens may text made line block so = by_place so.place
   where
-    by_place : IsOpened opens may so.blocks so.at (lines_of text) block line → IsFaultAt may text line TextKind.Early
+    by_place : IsOpened opens may so.blocks so.at (lines_of text) block line → IsFault may text (TextFault.At line TextKind.Early)
     by_place p = record {
       before = all_lines so.blocks ++ open_lines p.header p.inside;
       rest = [];
@@ -384,14 +387,14 @@ early_open {H} {O} stands opens may text made line block so = by_place so.place
           let here = p.open_to.line_is in
           omega (arith, number, here, length-append (all_lines so.blocks) (open_lines p.header p.inside), length-map p.inside line_text);
       right = open_continues may so.blocks so.at p.header p.inside so.read p.header_is p.header_only inside_is;
-      fault = λ whole. absurd (open_is_not_whole may so.blocks so.at p.header p.inside so.read p.header_is p.header_only inside_is whole);
+      fault = (refl, λ whole. absurd (open_is_not_whole may so.blocks so.at p.header p.inside so.read p.header_is p.header_only inside_is whole));
     }
       where
         inside_is : AreInside p.header.kind p.header.behaviours p.inside
         inside_is = as_header block.kind block.behaviours p.header p.inside p.kind_is p.few p.open_to.read
 
 pub early_if : {H O : Type 0} (stands : List Block → H → Type 0) (opens : ℕ → Header → List Line → O → Type 0) (may : Header → Type 0) (text : List ℕ) (made : H) (line : ℕ) (block : Option (OpenBlock O)) →
-    (is_some block ≡ true) ⊎ (line ≡ 1) → IsReadTo stands opens may (lines_of text) made block line → IsFaultAt may text line TextKind.Early
+    (is_some block ≡ true) ⊎ (line ≡ 1) → IsReadTo stands opens may (lines_of text) made block line → IsFault may text (TextFault.At line TextKind.Early)
 early_if stands opens may text made line None (inl some) so = absurd cc
 early_if stands opens may text made line None (inr first) so = early_none stands opens may text made line first so
 early_if stands opens may text made line (Some block) which so = early_open stands opens may text made line block so
@@ -405,13 +408,9 @@ fault_only may text (TextFault.At line kind) all bad is = absurd (by_rest kind b
     nothing [] some none = some refl
     nothing (b ∷ bs) some none = cc
 
-    by_rest : (kind : TextKind) (rest : List (List ℕ)) → bad.before ++ rest ≡ all_lines all → IsFaultAfter may bad.before rest kind → ⊥
-    by_rest TextKind.Early [] lines fault = let before_is = sym (append-nil bad.before) ∙ lines in nothing all is.some (sym (fault (all, is.fits, before_is)) ∙ before_is)
-    by_rest TextKind.FirstLine (next ∷ rest) lines fault = fault.1 (rest, (all, is.fits, append_assoc bad.before (next ∷ []) rest ∙ lines))
-    by_rest TextKind.Entry (next ∷ rest) lines fault = fault.1 (rest, (all, is.fits, append_assoc bad.before (next ∷ []) rest ∙ lines))
-    by_rest TextKind.Move [] lines fault = absurd fault
-    by_rest TextKind.Move (next ∷ rest) lines fault = absurd fault
-    by_rest _ _ lines fault = absurd fault
+    by_rest : (kind : TextKind) (rest : List (List ℕ)) → bad.before ++ rest ≡ all_lines all → IsFaultAfter (AreWhole may) (AreWhole may) TextKind.Entry bad.before rest kind → ⊥
+    by_rest kind [] lines fault = let before_is = sym (append-nil bad.before) ∙ lines in nothing all is.some (sym (fault.1 (all, is.fits, before_is)) ∙ before_is)
+    by_rest kind (next ∷ rest) lines fault = fault.0 (rest, (all, is.fits, append_assoc bad.before (next ∷ []) rest ∙ lines))
 
 pub whole_if : {H O : Type 0} (stands : List Block → H → Type 0) (opens : ℕ → Header → List Line → O → Type 0) (may : Header → Type 0) (text : List ℕ) (made : H) (line : ℕ) (block : Option (OpenBlock O)) →
     is_some block ≡ false → line ≢ 1 → IsReadTo stands opens may (lines_of text) made block line → IsWholeOf stands may text made

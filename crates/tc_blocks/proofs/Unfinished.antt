@@ -1,7 +1,7 @@
 -- Texts that come as bytes, part by part.
 use Rattle.std.{proofs.{Common.{ℕ, Bool, true, false, ◌≡◌, ◌≢◌, ◌==◌, ◌∙◌, ◌+◌, ◌-◌, ◌<◌, ◌≤◌, if◌then◌else◌, Option, None, Some, Result, Ok, Err, IfOk, IfErr, IfSome, List, [], ◌∷◌, ◌++◌, length, take, drop, slice_index, ap, sym, subst, refl, append_assoc, arith}, lemmas.List.{append-nil, length-append, take-append-drop, take_more, take-take}, Math.Seq.take-append_seam}, specs.{Io.{KnownBytes.{Consumes, IsAtEnd}, StartsWith}, List.onto_first}}
 use Rattle.tc_text.{specs.{declared.fault.TextFault.TextFault, Prelude.lines_of}, proofs.Lemmas.LinesOf.no_line}
-use Rattle.tc_blocks.{specs.{Inside.{GoesOn, IsFirst, IsKnown, IsPending, IsConsumed, IsFitSoFar, IsReadBy, IsReadInto, IsWholeOf, Refuses, RefusesPart, TakesPart, most_of}, Limit.{IsInLimit, IsReadIn, blocks_fit}, Text.{IsFault, IsHeader, IsTextOf}, declared.{block.Block.Block, header.Header.Header, limit.{Extent.Extent, Limit.Limit, OpenBytes.OpenBytes}, line.Line.Line, reading.Reading.Reading}}, proofs.PartByPart.{as_first, fault_only, on_whole}}
+use Rattle.tc_blocks.{specs.{Inside.{GoesOn, IsFirst, IsKnown, IsPending, IsConsumed, IsFitSoFar, IsReadBy, IsReadInto, IsWholeOf, Refuses, RefusesPart, TakesPart, blocks_fit, most_of}, Limit.{IsInLimit, IsReadIn}, Text.{IsFault, IsHeader, IsTextOf}, declared.{block.Block.Block, header.Header.Header, limit.{Extent.Extent, Limit.Limit, OpenBytes.OpenBytes}, line.Line.Line, reading.Reading.Reading}}, proofs.PartByPart.{as_first, fault_only, on_whole}}
 
 -- ---- whole lines
 

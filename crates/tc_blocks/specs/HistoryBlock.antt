@@ -3,10 +3,6 @@ use Rattle.std.specs.{Prelude.{ℕ, List, [], ◌∷◌, ◌++◌, codes, ◌==�
 use Rattle.tc_rules.specs.Prelude.{Verdict, name_of, Entry}
 use Rattle.tc_text.specs.Prelude.{move_text, reply_text}
 
--- the first line, without its LF: the words that say the format, 1 or 2, the name of the case, and how many behaviours it has
-abbrev pub history_header_text : ℕ → List ℕ → ℕ → List ℕ
-history_header_text f name n = (if f == 1 then codes "history 1 " else codes "history 2 ") ++ (name ++ (codes " " ++ decimal n))
-
 -- an entry, without its LF
 abbrev pub entry_text : Entry → List ℕ
 entry_text e = move_text e.caller.0 e.op ++ (codes " -> " ++ reply_text e.reply)
@@ -15,10 +11,8 @@ entry_text e = move_text e.caller.0 e.op ++ (codes " -> " ++ reply_text e.reply)
 abbrev pub end_text : Verdict → List ℕ
 end_text v = codes "end " ++ name_of v
 
--- the line of an entry
-abbrev pub entry_line : Entry → List ℕ
-entry_line e = entry_text e ++ (10 ∷ [])
-
--- a first line, a line for each entry, and a last line
+-- a first line, a line for each entry, and a last line; the first one has the format, 1 or 2, the name of the case, and how
+-- many behaviours it has
 abbrev pub history_text : ℕ → List ℕ → ℕ → List Entry → Verdict → List ℕ
-history_text f name n entries v = history_header_text f name n ++ (10 ∷ (flat_map entry_line entries ++ (end_text v ++ (10 ∷ []))))
+history_text f name n entries v = ((if f == 1 then codes "history 1 " else codes "history 2 ") ++ (name ++ (codes " " ++ decimal n)))
+    ++ (10 ∷ (flat_map (λ e. entry_text e ++ (10 ∷ [])) entries ++ (end_text v ++ (10 ∷ []))))

@@ -1,8 +1,8 @@
 -- What only the writer and the reader of one block say.
-use Rattle.std.specs.{Prelude.{ℕ, ◌≡◌, ◌≢◌, ◌+◌, ◌-◌, ◌^◌, ◌<◌, false, true, nat_eq, if◌then◌else◌, Bool, Option, None, Some, Result, MatchResult, List, [], ◌∷◌, ◌++◌, codes, length, map, ◌==◌}, Borrow.Bor, Io.KnownBytes.Consumes, List.{AllByRecursion, starts_with}, Option.option_map_or}
+use Rattle.std.specs.{Prelude.{ℕ, ◌≡◌, ◌≢◌, ◌+◌, ◌-◌, ◌^◌, ◌<◌, false, true, nat_eq, if◌then◌else◌, Bool, Option, None, Some, Result, MatchResult, List, [], ◌∷◌, ◌++◌, codes, length, map, ◌==◌, ◌||◌}, Borrow.Bor, Io.KnownBytes.Consumes, List.{AllByRecursion, flat_map, starts_with}, Option.option_map_or}
 use Rattle.tc_rules.specs.Prelude.{Run, Verdict, Entry, Reply, Op, start}
-use Rattle.tc_text.specs.{Prelude.{is_plain, lines_of, reply_text}, declared.fault.{TextFault.TextFault, TextKind.TextKind}}
-use Rattle.tc_blocks.specs.{Block.{header_text, block_text}, Histories.IsHistoryHeader, HistoryBlock.{end_text, entry_text, history_text}, HistoryText.IsEntry, Limit.{blocks_fit, ends_block, may_come}, Line.line_text, Met.AreMet, Sentence.IsSentence, Text.{AreBlocks, AreEvidence, AreLines, HoldsOfBlocks, IsFault, IsHeader, IsLine, IsTextOf, all_lines}, declared.{block.Block.Block, header.{Header.Header, Kind.Kind}, limit.{Extent.Extent, Limit.Limit, OpenBytes.OpenBytes}, line.Line.Line, met.MetRuns.MetRuns, reading.{OpenBlock.OpenBlock, Reading.Reading}, source.Pending.Pending, history_block.History.History}}
+use Rattle.tc_text.specs.{Prelude.{is_plain, lines_of, op_of, reply_text}, declared.short.ShortOp.ShortOp, declared.fault.{TextFault.TextFault, TextKind.TextKind}}
+use Rattle.tc_blocks.specs.{Block.{header_text, block_text}, Histories.IsHistoryHeader, HistoryBlock.{end_text, entry_text, history_text}, HistoryText.IsEntry, Limit.may_come, Line.line_text, Met.AreMet, Sentence.IsSentence, Text.{AreBlocks, AreEvidence, AreLines, HoldsOfBlocks, IsFault, IsHeader, IsLine, IsTextOf, block_lines}, declared.{block.Block.Block, header.{Header.Header, Kind.Kind}, limit.{Extent.Extent, Limit.Limit, OpenBytes.OpenBytes}, line.Line.Line, met.MetRuns.MetRuns, reading.{OpenBlock.OpenBlock, Reading.Reading}, source.Pending.Pending, history_block.History.History}}
 
 -- the text of a block
 abbrev pub text_of_block : Block → List ℕ
@@ -11,6 +11,35 @@ text_of_block b = block_text b.header b.lines b.verdict
 -- the text of a history, in its own format
 abbrev pub text_of_history : History → List ℕ
 text_of_history h = history_text h.format h.name h.behaviours h.entries h.verdict
+
+-- the line of an entry
+abbrev pub entry_line : Entry → List ℕ
+entry_line e = entry_text e ++ (10 ∷ [])
+
+-- the entry of this caller with a short operation and a reply
+abbrev pub short_entry : Run → ShortOp → Reply → Entry
+short_entry caller short reply = record { caller = caller; op = op_of short; reply = reply }
+
+-- the operation gives no component a name
+abbrev pub IsUnnamed : Op → Type 0
+IsUnnamed (Op.Create alive (Some name)) = ⊥
+IsUnnamed _ = Unit {0}
+
+-- the lines of blocks, one block after the other
+abbrev pub all_lines : List Block → List (List ℕ)
+all_lines blocks = flat_map block_lines blocks
+
+-- a byte that evidence may have: LF, or one from 32 to 126
+abbrev pub is_text_byte : ℕ → Bool
+is_text_byte b = (b == 10) || is_plain b
+
+-- the line is the last one of a block
+abbrev pub ends_block : List ℕ → Bool
+ends_block line = starts_with nat_eq line (codes "end ")
+
+-- no block of the text has more bytes
+abbrev pub blocks_fit : ℕ → List ℕ → Bool
+blocks_fit most text = may_come most 0 [] text
 
 -- entries of a block of this format
 abbrev pub AreEntries : ℕ → List Entry → Type 0

@@ -1,5 +1,5 @@
 -- Laws of evidence: what it says next to a history, and what bytes it has.
-use Rattle.std.specs.Prelude.{ℕ, ◌==◌, ◌||◌, ◌&&◌, not, Bool, List, reverse}
+use Rattle.std.specs.Prelude.{ℕ, ◌==◌, ◌&&◌, not, Bool, List, reverse}
 use Rattle.tc_rules.specs.Prelude.{Verdict, overall, IsLegal}
 use Rattle.tc_text.specs.Prelude.{is_plain}
 use Rattle.tc_blocks.specs.{Line.entries_of, Text.format_of, declared.{block.Block.Block, history_block.History.History, line.Line.Line}}
@@ -23,16 +23,6 @@ LinesAreLegal n lines = IsLegal n (reverse (entries_of lines))
 abbrev pub overall_of : List Line → Verdict
 overall_of lines = overall (reverse (entries_of lines))
 
--- a byte that evidence may have: LF, or one from 32 to 126
-abbrev pub is_text_byte : ℕ → Bool
-is_text_byte b = (b == 10) || is_plain b
-
 -- a byte that no sentence is needed for: from 32 to 126, but not `<`, which is 60
 abbrev pub is_quiet_byte : ℕ → Bool
 is_quiet_byte b = is_plain b && not (b == 60)
-
--- somebody's sentence: a remark or a refused line
-abbrev pub IsSaid : Line → Type 0
-IsSaid (Line.Remark run sentence) = Unit {0}
-IsSaid (Line.Refused run sentence) = Unit {0}
-IsSaid _ = ⊥

@@ -2,29 +2,22 @@
 use Rattle.std.specs.{Prelude.{ℕ, ◌≡◌, ◌≤◌, ◌<◌, ◌+◌, ◌==◌, ◌&&◌, ◌⊎◌, Bool, true, false, if◌then◌else◌, List, [], ◌∷◌, ◌++◌, Option, IfSome, codes, length, nat_eq, nat_lt, ◌^◌, ◌-◌}, List.starts_with}
 use Rattle.tc_blocks.specs.declared.limit.Limit.{Limit}
 
--- the line is the last one of a block
-abbrev pub ends_block : List ℕ → Bool
-ends_block line = starts_with nat_eq line (codes "end ")
-
--- after n bytes of a block, of which these are the last line so far, the others may come if no block has more than the most
+-- After n bytes of a block, of which these are the last line so far, the others may come if no block has more than the
+-- most. A block ends with a line that begins with `end `, or with the text.
 abbrev pub may_come : ℕ → ℕ → List ℕ → List ℕ → Bool
 may_come most n line [] = true
 may_come most n line (b ∷ bs) =
-    nat_lt n most && (if b == 10 then may_come most (if ends_block line then 0 else n + 1) [] bs else may_come most (n + 1) (line ++ b ∷ []) bs)
-
--- no block of the text has more bytes: up to the end of its last line, or, if it has none, of the text
-abbrev pub blocks_fit : ℕ → List ℕ → Bool
-blocks_fit most text = may_come most 0 [] text
+    nat_lt n most && (if b == 10 then may_come most (if starts_with nat_eq line (codes "end ") then 0 else n + 1) [] bs else may_come most (n + 1) (line ++ b ∷ []) bs)
 
 -- the text has as many bytes as it may have: all together, or in each block
 abbrev pub IsInLimit : Limit → List ℕ → Type 0
 IsInLimit (Limit.Whole most) text = length text ≤ most
-IsInLimit (Limit.Blocks most) text = (length text < 2 ^ 64 - 1) × (blocks_fit most text ≡ true)
+IsInLimit (Limit.Blocks most) text = (length text < 2 ^ 64 - 1) × (may_come most 0 [] text ≡ true)
 
 -- it has more: all together, or in a block, or more than can be counted
 abbrev pub IsPastLimit : Limit → List ℕ → Type 0
 IsPastLimit (Limit.Whole most) text = most < length text
-IsPastLimit (Limit.Blocks most) text = (blocks_fit most text ≡ false) ⊎ (2 ^ 64 - 1 ≤ length text)
+IsPastLimit (Limit.Blocks most) text = (may_come most 0 [] text ≡ false) ⊎ (2 ^ 64 - 1 ≤ length text)
 
 -- the input was read whole: a text of as many bytes as it may have, which is what the input holds if that is known; and this is so of it
 abbrev pub IsReadIn : Limit → Option (List ℕ) → (List ℕ → Type 0) → Type 0

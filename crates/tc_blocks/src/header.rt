@@ -1,10 +1,10 @@
 //! The first line of a block.
-ghost use Rattle.std.specs.Prelude.{◌≡◌, ◌≢◌, ◌<◌, ◌↔◌, ◌++◌, ◌∷◌, ℕ, true, List, length, IfSome, IsTrue};
+ghost use Rattle.std.specs.Prelude.{◌≡◌, ◌≢◌, ◌<◌, ◌≤◌, ◌↔◌, ◌++◌, ◌∷◌, ℕ, true, List, length, IfSome, IsTrue};
 ghost use Rattle.std.specs.Fmt.{decimal};
 ghost use Rattle.tc_rules.specs.Prelude.{IsBehaviours};
 ghost use Rattle.tc_text.specs.Prelude.{lines_of, EndsLine, Takes};
 ghost use Rattle.tc_text.specs.Inside.{TakesLine};
-ghost use Rattle.tc_blocks.specs.{Block.header_text, Block.kind_text, HistoryText.IsFormat, Inside.IsFirst, Text.IsHeader, Text.format_of};
+ghost use Rattle.tc_blocks.specs.{Block.header_text, Block.kind_text, Inside.IsFirst, Text.IsHeader, Text.format_of};
 
 use tc_entry::Name;
 use tc_text::{after, as_behaviours, take_line_end, take_name, take_number};
@@ -46,31 +46,30 @@ pub struct Header {
 /// The most behaviours of a block of format 1; format 2 has as many as a test case may have.
 pub const FORMAT_1_BEHAVIOURS: u16 = 64;
 
-// Whether a block of that many behaviours may have this format.
-fn is_format(format: u16, behaviours: u16) -> bool
-    ensures { IsTrue result ↔ IsFormat format behaviours }
+// Whether a block of this kind may have that many behaviours.
+fn fits_kind(kind: Kind, behaviours: u16) -> bool
+    ensures { IsTrue result ↔ (kind ≡ Kind.History1 → behaviours ≤ 64) }
 {
-    match format {
-        1 => behaviours <= FORMAT_1_BEHAVIOURS,
-        2 => true,
-        _ => false,
+    match kind {
+        Kind::History1 => behaviours <= FORMAT_1_BEHAVIOURS,
+        Kind::History2 | Kind::Evidence => true,
     }
 }
 
-// The number of behaviours after the name of a test case, if a block of this format may have that many, and what follows
+// The number of behaviours after the name of a test case, if a block of this kind may have that many, and what follows
 // the line, which it ends.
-fn take_behaviours(format: u16, text: &[u8]) -> Option<(u16, &[u8])>
+fn take_behaviours(kind: Kind, text: &[u8]) -> Option<(u16, &[u8])>
     ensures spelled { IfSome result (λ r. (rest : List ℕ) × (text.now ≡ 32 ∷ (decimal r.0 ++ rest)) × EndsLine rest r.1.now) }
-    ensures fits { IfSome result (λ r. IsBehaviours r.0 × IsFormat format r.0) }
+    ensures fits { IfSome result (λ r. IsBehaviours r.0 × (kind ≡ Kind.History1 → r.0 ≤ 64)) }
     ensures less { IfSome result (λ r. length r.1.now < length text.now) }
-    ensures only { (n : ℕ) (rest behind : List ℕ) → IsBehaviours n → IsFormat format n → EndsLine rest behind
+    ensures only { (n : ℕ) (rest behind : List ℕ) → IsBehaviours n → (kind ≡ Kind.History1 → n ≤ 64) → EndsLine rest behind
         → text.now ≡ 32 ∷ (decimal n ++ rest) → Takes result n behind }
 {
     let rest = after(text, b" ")?;
     let (number, rest) = take_number(rest)?;
     let rest = take_line_end(rest)?;
     let behaviours = as_behaviours(number)?;
-    if !is_format(format, behaviours) {
+    if !fits_kind(kind, behaviours) {
         return None;
     }
     Some((behaviours, rest))
@@ -102,7 +101,7 @@ fn take_header(text: &[u8]) -> Option<(Header, &[u8])>
 {
     let (kind, rest) = take_kind(text)?;
     let (name, rest) = take_name(rest)?;
-    match take_behaviours(kind.format(), rest) {
+    match take_behaviours(kind, rest) {
         Some((behaviours, rest)) => {
             let header = Header {
                 kind,

@@ -1,7 +1,7 @@
 //! The history of a test case, and writing it.
 ghost use Rattle.std.specs.Prelude.{◌≡◌, ◌++◌, ◌∷◌, [], OnOk, OnErr};
 ghost use Rattle.std.specs.{Io.StartsWith, List.flat_map};
-ghost use Rattle.tc_blocks.specs.HistoryBlock.{history_text, end_text, entry_line};
+ghost use Rattle.tc_blocks.specs.{HistoryBlock.{end_text, entry_text, history_text}, Inside.entry_line};
 
 use crate::header::Kind;
 use crate::write::append_first;
@@ -40,7 +40,7 @@ pub(crate) fn append_entry(out: &mut Vec<u8>, entry: &Entry) -> Result<(), NoMem
 
 /// Appends the line of each entry; if memory runs out, a part of them.
 pub fn append_entries(out: &mut Vec<u8>, entries: &[Entry]) -> Result<(), NoMemory>
-    ensures ok { OnOk result (out.new.items ≡ out.old.items ++ flat_map entry_line entries.now) }
+    ensures ok { OnOk result (out.new.items ≡ out.old.items ++ flat_map (λ e. entry_text e ++ (10 ∷ [])) entries.now) }
     ensures err { OnErr result (StartsWith out.new.items out.old.items) }
 {
     for entry in entries {

@@ -3,7 +3,7 @@ ghost use Rattle.std.specs.Prelude.{◌≡◌, ◌<◌, ◌↔◌, ◌∷◌, �
 ghost use Rattle.tc_rules.specs.Prelude.{Verdict as AnyVerdict, Entry as AnyEntry, Reply as AnyReply};
 ghost use Rattle.tc_text.specs.Prelude.{lines_of, IsLong, IsReply};
 ghost use Rattle.tc_text.specs.Inside.{TakesLine};
-ghost use Rattle.tc_blocks.specs.{HistoryBlock.{end_text, entry_text}, Inside.outcome_text, HistoryText.{IsUnnamed, IsEntry, short_entry}};
+ghost use Rattle.tc_blocks.specs.{HistoryBlock.{end_text, entry_text}, Inside.{IsUnnamed, outcome_text, short_entry}, HistoryText.IsEntry};
 
 use tc_entry::{Entry, Op, Reply, Run, Verdict};
 use tc_text::{
@@ -48,9 +48,9 @@ fn may_have(format: u16, op: &Op) -> bool
     }
 }
 
-// The entry with a long operation that the first line spells, and what follows that line.
+/// The entry with a long operation that the first line spells, and what follows that line.
 #[inline(never)]
-fn take_long_line(format: u16, text: &[u8]) -> Option<(Entry, &[u8])>
+pub(crate) fn take_long_line(format: u16, text: &[u8]) -> Option<(Entry, &[u8])>
     ensures spelled { IfSome result (λ r. lines_of text.now ≡ entry_text r.0 ∷ lines_of r.1.now) }
     ensures fits { IfSome result (λ r. IsEntry format r.0) }
     ensures less { IfSome result (λ r. length r.1.now < length text.now) }
@@ -80,26 +80,4 @@ pub(crate) fn take_short_line<T>(text: &[u8]) -> Option<((Run, ShortOp, Reply), 
     };
     let (reply, rest) = take_outcome::<T>(rest)?;
     Some(((caller, op, reply), rest))
-}
-
-/// The entry of a block of this format that the first line spells, and what follows that line.
-#[inline(never)]
-pub(crate) fn take_entry_line(format: u16, text: &[u8]) -> Option<(Entry, &[u8])>
-    ensures spelled { IfSome result (λ r. lines_of text.now ≡ entry_text r.0 ∷ lines_of r.1.now) }
-    ensures fits { IfSome result (λ r. IsEntry format r.0) }
-    ensures less { IfSome result (λ r. length r.1.now < length text.now) }
-    ensures only { (e : AnyEntry) (others : List (List ℕ)) → IsEntry format e → lines_of text.now ≡ entry_text e ∷ others
-        → TakesLine result e others }
-{
-    match take_short_line::<()>(text) {
-        Some(((caller, short, reply), rest)) => {
-            let entry = Entry {
-                caller,
-                op: short.op(),
-                reply,
-            };
-            Some((entry, rest))
-        }
-        None => take_long_line(format, text),
-    }
 }

@@ -1,10 +1,10 @@
 //! Laws of blocks: each function changes nothing, and its contract is the law.
-ghost use Rattle.std.specs.{Prelude.{◌≡◌, ◌≢◌, ◌++◌, ◌∷◌, ◌↔◌, ℕ, [], IfSome, List, map, true}, List.{AllByRecursion, flat_map, list_all}};
-ghost use Rattle.tc_rules.specs.Prelude.{IsBehaviours, IsName, Verdict};
-ghost use Rattle.tc_text.specs.Prelude.{AreComps, IsComp, IsGroup, IsOp, IsReply, IsTarget};
-ghost use Rattle.tc_blocks.specs.{Block.{block_text, header_text}, Histories.{AreHistories, IsHistoryHeader}, HistoryBlock.{end_text, history_text}, HistoryText.IsEntry, Laws.{IsSaid, LinesAreLegal, history_of, is_quiet_byte, is_text_byte, overall_of}, Line.{entries_of, entry_in, line_text}, Text.{AreBlocks, AreEvidence, IsHeader, IsLine}, declared.{block.Block.Block, header.{Header.Header, Kind.Kind}, history_block.History.History, line.Line.Line}};
+ghost use Rattle.std.specs.{Prelude.{◌≡◌, ◌≢◌, ◌<◌, ◌^◌, ◌==◌, ◌||◌, ◌++◌, ◌∷◌, ◌↔◌, ℕ, [], List, map, true}, List.{AllByRecursion, flat_map, list_all}};
+ghost use Rattle.tc_rules.specs.Prelude.{Entry as AnyEntry, IsName, Verdict};
+ghost use Rattle.tc_text.specs.Prelude.{AreComps, IsComp, IsGroup, IsOp, IsTarget, is_plain};
+ghost use Rattle.tc_blocks.specs.{Block.{block_text, header_text}, Histories.{AreHistories, IsHistoryHeader}, HistoryBlock.{end_text, entry_text, history_text}, HistoryText.IsEntry, Laws.{LinesAreLegal, history_of, is_quiet_byte, overall_of}, Line.{entries_of, entry_in, naming_text}, Text.{AreBlocks, AreEvidence, IsHeader}, declared.{block.Block.Block, header.Header.Header, history_block.History.History, line.Line.Line}};
 
-use tc_entry::{Comp, Entry, Group, Name, Op, Reply, Target};
+use tc_entry::{Comp, Entry, Group, Op, Reply, Target};
 
 /// What is written of blocks is read as these blocks.
 #[tactic(auto, using(crate::proofs::Lemmas::WrittenEvidence::written_evidence))]
@@ -41,13 +41,14 @@ pub fn histories_are_read()
 pub fn bytes_of_evidence()
     // A text that is read has LF and bytes from 32 to 126.
     ensures text_bytes { (text : List ℕ) (blocks : List Block) → AreEvidence text blocks
-        → list_all is_text_byte text ≡ true }
+        → list_all (λ b. (b == 10) || is_plain b) text ≡ true }
     // Neither a first nor a last line has a `<`.
     ensures first_bytes { (h : Header) → IsHeader h → list_all is_quiet_byte (header_text h) ≡ true }
     ensures last_bytes { (v : Verdict) → list_all is_quiet_byte (end_text v) ≡ true }
-    // Nor has a line inside, except a remark and a refused line.
-    ensures line_bytes { (kind : Kind) (n : ℕ) (before : List Line) (l : Line) → IsBehaviours n
-        → IsLine kind n before l → (IsSaid l → ⊥) → list_all is_quiet_byte (line_text l) ≡ true }
+    // Nor has an entry, or the name of a behaviour.
+    ensures entry_bytes { (f : ℕ) (e : AnyEntry) → IsEntry f e → list_all is_quiet_byte (entry_text e) ≡ true }
+    ensures naming_bytes { (run : ℕ) (name : List ℕ) → run < 2 ^ 32 → IsName name
+        → list_all is_quiet_byte (naming_text run name) ≡ true }
 {}
 
 fn comp_fits(comp: &Comp)
@@ -81,14 +82,6 @@ fn target_fits(target: &Target)
     }
 }
 
-fn name_fits(name: &Option<Name>)
-    ensures { IfSome name.now IsName }
-{
-    if let Some(name) = name {
-        let _bytes = name.bytes();
-    }
-}
-
 fn op_fits(op: &Op)
     ensures { IsOp op.now }
 {
@@ -99,20 +92,19 @@ fn op_fits(op: &Op)
             comps_fit(args.as_slice());
         }
         Op::Stop(group) | Op::Kill(group) => group_fits(group),
-        Op::Running(target) | Op::Alive(target) | Op::Done(target) | Op::Killed(target) => {
-            target_fits(target)
+        Op::Running(target)
+        | Op::Alive(target)
+        | Op::Done(target)
+        | Op::Killed(target)
+        | Op::Wait { target, .. }
+        | Op::Wake { target, .. } => target_fits(target),
+        Op::Create {
+            name: Some(name),
+            ..
+        } => {
+            let _bytes = name.bytes();
         }
-        Op::Wait { target, .. } | Op::Wake { target, .. } => target_fits(target),
-        Op::Create { name, .. } => name_fits(name),
-        Op::StopCase | Op::SetVerdict(_) | Op::GetVerdict | Op::Finish => (),
-    }
-}
-
-fn reply_fits(reply: &Reply)
-    ensures { IsReply reply.now }
-{
-    if let Reply::Made(comp) = reply {
-        comp_fits(comp);
+        _ => (),
     }
 }
 
@@ -121,7 +113,9 @@ fn entry_fits(entry: &Entry)
 {
     let _number = entry.caller.0;
     op_fits(&entry.op);
-    reply_fits(&entry.reply);
+    if let Reply::Made(comp) = &entry.reply {
+        comp_fits(comp);
+    }
 }
 
 /// The numbers of entries are those of their types, and so they are entries of format 2.

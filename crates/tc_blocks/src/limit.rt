@@ -1,7 +1,7 @@
 //! How many bytes an input of blocks may have, and how many of them are read.
 ghost use Rattle.std.specs.Prelude.{◌≡◌, ◌<◌, ◌≤◌, ◌+◌, ◌++◌, ◌∷◌, [], ℕ, List, Option, length, take, IfOk, IfSome, IfNone, IsErrOf, OnOk, MatchBool, true, false};
 ghost use Rattle.std.specs.Io.KnownBytes.{IsAtEnd};
-ghost use Rattle.tc_blocks.specs.{Inside.IsConsumed, Inside.IsFitSoFar, Inside.IsOpenAfter, Inside.is_due, Limit.IsPastLimit, Limit.blocks_fit, Limit.ends_block};
+ghost use Rattle.tc_blocks.specs.{Inside.IsConsumed, Inside.IsFitSoFar, Inside.IsOpenAfter, Inside.blocks_fit, Inside.ends_block, Inside.is_due, Limit.IsPastLimit};
 
 use std::io::Read;
 use tc_stream::{InputFault, read_part};

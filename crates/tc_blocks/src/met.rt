@@ -2,7 +2,7 @@
 ghost use Rattle.std.specs.Prelude.{◌≡◌, ◌<◌, ◌||◌, ◌==◌, [], ◌∷◌, ℕ, Bool, List, slice_index_or};
 ghost use Rattle.tc_rules.specs.Prelude.{Reply as AnyReply};
 ghost use Rattle.tc_text.specs.declared.short.ShortOp.{ShortOp as AnyShort};
-ghost use Rattle.tc_blocks.specs.{HistoryText.short_entry, Line.is_met as met, Met.AreMet};
+ghost use Rattle.tc_blocks.specs.{Inside.short_entry, Line.is_met as met, Met.AreMet};
 
 use crate::line::Line;
 use tc_entry::{BEHAVIOURS, Entry, Op, Run};

@@ -1,11 +1,13 @@
 //! Reading blocks.
-ghost use Rattle.std.specs.Prelude.{◌≡◌, ◌<◌, ◌≤◌, ◌+◌, ℕ, List, length, IfOk, IfErr, OnOk, IfSome, MatchOption, MatchResult};
-ghost use Rattle.tc_blocks.specs.{Histories.AreHistories, Histories.IsHistoryHeader, Inside.{AreAlike, AreTakenBy, IsFirst, IsFound, IsInsideFault, IsNoEntryLine, IsNoLine, IsOpenTo, IsWholeOf, TakesLineIn}, Met.AreMet, Text.AreEvidence, Text.IsFault, Text.IsHeader, Text.IsLine, Text.format_of, declared.header.Header.Header};
+ghost use Rattle.std.specs.Prelude.{◌≡◌, ◌<◌, ◌≤◌, ◌+◌, ◌∷◌, ℕ, List, length, IfOk, IfErr, OnOk, IfSome, MatchOption, MatchResult};
+ghost use Rattle.tc_rules.specs.Prelude.{Entry as AnyEntry};
+ghost use Rattle.tc_text.specs.Prelude.{IsLong, lines_of};
+ghost use Rattle.tc_blocks.specs.{Histories.AreHistories, Histories.IsHistoryHeader, Inside.{AreAlike, AreTakenBy, IsFirst, IsFound, IsInsideFault, IsNoEntryLine, IsNoLine, IsOpenTo, IsWholeOf, TakesLineIn}, HistoryBlock.entry_text, HistoryText.IsEntry, Met.AreMet, Text.AreEvidence, Text.IsFault, Text.IsHeader, Text.IsLine, Text.format_of, declared.header.Header.Header};
 
 use crate::History;
 use crate::block::{Block, histories_of};
 use crate::header::Kind;
-use crate::history_line::{take_end_line, take_entry_line, take_short_line};
+use crate::history_line::{take_end_line, take_long_line, take_short_line};
 use crate::line::Line;
 use crate::met::MetRuns;
 use crate::note::take_note;
@@ -44,10 +46,12 @@ fn take_any_line<'a, H: TakesEvidence>(
     text: &'a [u8],
     line: usize,
 ) -> Result<Option<&'a [u8]>, NoMemory>
+    requires { (e : AnyEntry) (others : List (List ℕ)) → IsEntry (format_of block.old.kind) e
+        → lines_of text.now ≡ entry_text e ∷ others → IsLong e.op }
     ensures { IfOk result (λ found. MatchOption found (IsNoLine block.old.kind block.old.behaviours block.old.met text.now)
         (λ rest. TakesLineIn H.opens text.now line block.old block.new rest.now)) }
 {
-    if let Some((entry, rest)) = take_entry_line(block.kind.format(), text) {
+    if let Some((entry, rest)) = take_long_line(block.kind.format(), text) {
         block.met.add_entry(&entry);
         H::take_entry(&mut block.begun, line, entry)?;
         return Ok(Some(rest));

@@ -1,6 +1,7 @@
 //! What is made of blocks as they are read.
 ghost use Rattle.std.specs.Prelude.{◌≡◌, ◌+◌, ◌++◌, ◌∷◌, ℕ, List, [], length, IfOk, OnOk};
-ghost use Rattle.tc_blocks.specs.{HistoryText.short_entry, Text.IsHeader, declared.block.Block.Block, declared.header.Header.Header, declared.line.Line.Line};
+ghost use Rattle.tc_text.specs.Prelude.{op_of};
+ghost use Rattle.tc_blocks.specs.{Text.IsHeader, declared.block.Block.Block, declared.header.Header.Header, declared.line.Line.Line};
 
 use crate::block::Block;
 use crate::header::Header;
@@ -50,7 +51,7 @@ pub trait TakesEvidence: Sized {
         reply: Reply,
     ) -> Result<(), NoMemory>
         ensures { OnOk result ((first_line : ℕ) (h : Header) (before : List Line) → line ≡ first_line + length before + 1
-            → opens first_line h before begun.old → opens first_line h (before ++ Line.Entry (short_entry caller op reply) ∷ []) begun.new) }
+            → opens first_line h before begun.old → opens first_line h (before ++ Line.Entry (record { caller = caller; op = op_of op; reply = reply }) ∷ []) begun.new) }
     {
         let entry = Entry {
             caller,

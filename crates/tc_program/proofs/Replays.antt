@@ -29,14 +29,14 @@ played_more n moves r r' m reply before same plays wrote =
 pub all_played : (text out : List ℕ) (r : Replaying) (verdict : Verdict) → IsMadeOfMoves ArePlayed text r → ((past : List Entry) → StandsFor r.state past → verdict ≡ overall past) →
     out ≡ r.out.items ++ verdict_line verdict → Replays text out (verdict_status verdict)
 all_played text out r verdict so is more =
-    let played = so.made in
+    let played = so.3 in
     let h = played.history in
     let right : verdict ≡ overall (reverse h) = is (reverse h) played.stands in
     record {
-      behaviours = so.behaviours;
+      behaviours = so.0;
       history = h;
-      list = subst (IsMoveList text so.behaviours) (sym played.moves_are) so.list;
-      legal = legal_for so.behaviours r.state (reverse h) played.behaviours played.stands;
+      list = subst (IsMoveList text so.0) (sym played.moves_are) so.2;
+      legal = legal_for so.0 r.state (reverse h) played.behaviours played.stands;
       out_is = more ∙ (ap (λ l. l ++ verdict_line verdict) played.lines ∙ ap (λ v. flat_map reply_line h ++ verdict_line v) right);
       status_is = ap verdict_status right;
     }

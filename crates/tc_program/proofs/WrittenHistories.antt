@@ -1,5 +1,5 @@
 -- Written histories and evidence are legal.
-use Rattle.std.{proofs.{Common.{ℕ, ◌≡◌, ◌≢◌, ◌∙◌, ◌+◌, ◌≤◌, Bool, true, false, All, inr, List, [], ◌∷◌, ◌++◌, length, map, reverse, take, refl, ap, sym, subst, arith}, lemmas.{Bool.Decides.nat_tests, List.{Elements.{All-cons, All-head, All-nil, All-tail, All-take}, Folds.list_any-append, length-take}}}, specs.{Prelude.◌==◌, List.{AllZip, flat_map}}}
+use Rattle.std.{proofs.{Common.{ℕ, ◌≡◌, ◌≢◌, ◌∙◌, ◌+◌, ◌≤◌, Bool, true, false, All, List, [], ◌∷◌, ◌++◌, length, map, reverse, take, refl, ap, sym, subst, arith}, lemmas.{Bool.Decides.nat_tests, List.{Elements.{All-cons, All-head, All-nil, All-tail, All-take}, Folds.list_any-append, length-take}}}, specs.{Prelude.◌==◌, List.{AllZip, flat_map}}}
 use Rattle.tc_rules.specs.Prelude.{IsName, Entry, IsLegal, overall, IsOneHistory}
 use Rattle.tc_blocks.{specs.{Prelude.{AreEntries, is_about, is_met, AreBlocks, AreEvidence, AreLines, IsHeader, block_lines, format_of, text_of_block}, declared.{block.Block.Block, header.Kind.Kind, line.Line.Line}}, proofs.Lemmas.WrittenEvidence.written_evidence}
 use Rattle.tc_report.{specs.{Inside.{case_lines, finished_header, namings}, declared.results.{Finished.Finished, Results.Results}, Prelude.{blocks_text, case_block}}, proofs.Lemmas.Telling.entries_written}
@@ -98,7 +98,7 @@ namings_inside : (n run : ℕ) (names : List (List ℕ)) (before : List Line) (e
     → AreEntries 2 es → AreLines Kind.Evidence n before (namings run names ++ map Line.Entry es)
 namings_inside n run [] before es few named unmet fit = entries_inside Kind.Evidence n before es refl fit
 namings_inside n run (name ∷ names) before es few named unmet fit = (
-  record { evidence = refl; few = omega (arith, few); name_is = All-head IsName name names named; first = unmet run (omega arith) },
+  (refl, omega (arith, few), All-head IsName name names named, unmet run (omega arith)),
   namings_inside n (run + 1) names (before ++ Line.Named (record { 0 = run }) name ∷ []) es (omega (arith, few)) (All-tail IsName name names named)
       (unmet_more run name before unmet) fit,
 )
@@ -111,17 +111,13 @@ inside_of Kind.Evidence f other fits =
     namings_inside f.report.behaviours 0 (take f.report.behaviours f.names) [] f.report.history
     (omega (arith, length-take f.report.behaviours f.names)) (All-take IsName f.report.behaviours f.names fits.1) (λ k later. refl) fits.2
 
-second : (kind : Kind) → kind ≢ Kind.History1 → format_of kind ≡ 2
-second Kind.History1 other = absurd (other refl)
-second kind other = refl
-
 pub reported_were_run : (kind : Kind) (cases : List Outline) (r : Results) → kind ≢ Kind.History1 → All FitsItsTypes r.finished → AreReported cases r → WereRun kind r
 reported_were_run kind cases r other fit reported = record {
   some = reported.some;
   each = λ k d within.
       let fits = fit k d within in
       record {
-        header = record { name_is = fits.0; few = reported.behaviours k d within; kind_fits = inr (second kind other) };
+        header = record { name_is = fits.0; few = reported.behaviours k d within; kind_fits = λ one. absurd (other one) };
         inside = inside_of kind _ other fits;
         report = have_histories (take (length r.finished) cases) r.finished reported.reports k d within;
       };

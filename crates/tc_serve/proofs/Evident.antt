@@ -125,15 +125,15 @@ note_fits p (Line.Named run name) may fits is =
     let two = and_split (nat_lt run.0 p.behaviours) (is_met run.0 p.lines) may in
     evident p (Line.Named run name ∷ p.lines) is
     (fit_more p.behaviours p.lines (Line.Named run name) (fit_of p is) is.entries
-    (record { evidence = refl; few = below run.0 p.behaviours two.0; name_is = fits; first = sym (met_reverse run.0 p.lines) ∙ two.1 }))
+    (refl, below run.0 p.behaviours two.0, fits, sym (met_reverse run.0 p.lines) ∙ two.1))
 note_fits p (Line.Entry e) may fits is = absurd fits
 note_fits p (Line.Remark run sentence) may fits is =
     evident p (Line.Remark run sentence ∷ p.lines) is
-    (fit_more p.behaviours p.lines (Line.Remark run sentence) (fit_of p is) is.entries (record { evidence = refl; few = below run.0 p.behaviours may; sentence_is = fits }))
+    (fit_more p.behaviours p.lines (Line.Remark run sentence) (fit_of p is) is.entries (refl, below run.0 p.behaviours may, fits))
 note_fits p (Line.Refused run sentence) may fits is =
     evident p (Line.Refused run sentence ∷ p.lines) is
     (fit_more p.behaviours p.lines (Line.Refused run sentence) (fit_of p is) is.entries
-    (record { evidence = refl; few = below run.0 p.behaviours may; sentence_is = subst IsSentence (sym fits.1) (refusal_plain fits.0) }))
+    (refl, below run.0 p.behaviours may, subst IsSentence (sym fits.1) (refusal_plain fits.0)))
 
 move_fits : (p : Played) (caller : Run) (op : Op) → caller.0 < 2 ^ 16 → IsOp op → IsEvident p → IsEvident (moved p caller op)
 move_fits p caller op low fits is =
@@ -179,7 +179,7 @@ blocks_text line (p ∷ ps) =
 are_blocks : (line : ℕ) (ps : List Played) → AllByRecursion IsEvident ps → AreBlocks IsHeader line (blocks_of line ps)
 are_blocks line [] fit = tt
 are_blocks line (p ∷ ps) fit = (
-  record { header = record { name_is = fit.0.name; few = fit.0.behaviours; kind_fits = inr refl }; inside = fit.0.lines; first = refl },
+  record { header = record { name_is = fit.0.name; few = fit.0.behaviours; kind_fits = λ e. absurd cc }; inside = fit.0.lines; first = refl },
   are_blocks (line + length (block_lines (block_of line p))) ps fit.1,
 )
 

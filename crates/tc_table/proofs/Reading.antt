@@ -1,5 +1,5 @@
 -- The history that is written is read again as what it was.
-use Rattle.std.proofs.{Common.{ℕ, ◌≡◌, ◌≢◌, List, [], ◌∷◌, ◌++◌, map, refl, ap, subst, inr}, lemmas.List.append-nil}
+use Rattle.std.proofs.{Common.{ℕ, ◌≡◌, ◌≢◌, List, [], ◌∷◌, ◌++◌, map, refl, ap, subst}, lemmas.List.append-nil}
 use Rattle.tc_rules.specs.Prelude.{Case, Entry, IsBehaviours, IsName, overall, past_of}
 use Rattle.tc_blocks.{specs.{Histories.{AreHistories, IsHistoryHeader}, Prelude.{AreEntries, history_text}, Line.entries_of, Text.{AreLines, IsBlock}, declared.{block.Block.Block, header.Kind.Kind, history_block.History.History, line.Line.Line}}, proofs.Lemmas.Histories.are_read}
 use Rattle.tc_table.specs.Calls.{written_text}
@@ -21,7 +21,7 @@ block name t = record {
 }
 
 header_fits : (name : List ℕ) (t : Case) → IsName name → IsBehaviours t.behaviours → IsHistoryHeader (block name t).header
-header_fits name t named few = (record { name_is = named; few = few; kind_fits = inr refl }, λ e. cc)
+header_fits name t named few = (record { name_is = named; few = few; kind_fits = λ e. absurd cc }, λ e. cc)
 
 block_fits : (name : List ℕ) (t : Case) → IsName name → IsBehaviours t.behaviours → AreEntries 2 t.history → IsBlock IsHistoryHeader 1 (block name t)
 block_fits name t named few fit = record { header = header_fits name t named few; inside = lines_fit t.behaviours [] t.history fit; first = refl }

@@ -1,6 +1,6 @@
 -- The first words of operations, and what operations are about, read from the text after these.
 use Rattle.std.{proofs.{Common.{◌≡◌, ◌≢◌, ◌∙◌, true, false, Some, None, ℕ, List, ◌++◌, codes, refl, ap, sym, append_assoc, ◌<◌, ◌≤◌, ◌+◌, ◌^◌, [], ◌∷◌, length, arith}, lemmas.Grind.common_steps}, specs.Fmt.decimal}
-use Rattle.tc_entry.specs.{declared.comp.Comp.Comp, declared.limits.TheConstants.ARGUMENTS, declared.op.Group.Group, declared.op.Op.Op, declared.op.Target.Target, Prelude.Run}
+use Rattle.tc_entry.specs.{declared.comp.Comp.Comp, declared.limits.TheConstants.ARGUMENTS, declared.op.Group.Group, declared.op.Op.Op, declared.op.Target.Target, declared.reply.Fault.Fault, Prelude.{Run, fault_name}}
 use Rattle.tc_text.{specs.{Inside.{IsWait, operand_text, status_text, verb_of, verb_text, start_text, AreComps}, Reading.{EndsMove, EndsNumber}, Spelling.{IsComp, IsGroup, IsTarget, args_text, group_text, op_text, target_text}, declared.verb.{Status.Status, Verb.Verb}}, proofs.Lemmas.Digits.{digit_first, no_letter}}
 
 -- an operation is its first words and what follows them
@@ -55,11 +55,25 @@ pub ends_space : (rest : List ℕ) → EndsNumber (32 ∷ rest)
 ends_space rest b after e = let same : 32 ≡ b = first_is 32 b rest after e in omega (arith, same)
 
 pub ends_args : (cs : List Comp) (rest : List ℕ) → EndsMove rest → EndsNumber (args_text cs ++ rest)
-ends_args [] rest ends = ends.number
+ends_args [] rest ends = ends.0
 ends_args (c ∷ cs) rest ends = ends_space ((decimal c.0 ++ args_text cs) ++ rest)
 
 pub ends_nothing : EndsMove []
-ends_nothing = record { number = λ b rest e. absurd cc; word = λ b rest e. absurd cc }
+ends_nothing = (λ b rest e. absurd cc, λ b rest e. absurd cc)
+
+-- no name of a dynamic error is after a reply and a space
+pub no_fault_after : (f : Fault) (text rest behind after : List ℕ) → text ≡ codes "error" ++ rest → rest ≡ codes " " ++ (fault_name f ++ behind) → EndsMove after → text ≡ codes "error" ++ after → ⊥
+no_fault_after f text rest behind after whole fault ends e = by_name f (sym (let same = sym whole ∙ e in cc) ∙ fault)
+  where
+    by_name : (f : Fault) → after ≡ codes " " ++ (fault_name f ++ behind) → ⊥
+    by_name Fault.NoComponent is = let low = ends.1 _ _ is in omega (arith, low)
+    by_name Fault.NotMain is = let low = ends.1 _ _ is in omega (arith, low)
+    by_name Fault.StartMain is = let low = ends.1 _ _ is in omega (arith, low)
+    by_name Fault.AlreadyRunning is = let low = ends.1 _ _ is in omega (arith, low)
+    by_name Fault.NotStartable is = let low = ends.1 _ _ is in omega (arith, low)
+    by_name Fault.NoBehaviour is = let low = ends.1 _ _ is in omega (arith, low)
+    by_name Fault.TooMany is = let low = ends.1 _ _ is in omega (arith, low)
+    by_name Fault.Stuck is = let low = ends.1 _ _ is in omega (arith, low)
 
 -- ---- arguments
 
@@ -97,7 +111,7 @@ pub args_only : (text after behind result : List ℕ) (number : ℕ) (old mid ne
 args_only text after behind result number old mid new space spelled low added only more [] rest fits room ends e =
     let first = digit_first number low in
     let is : rest ≡ 32 ∷ first.0 ∷ (first.1.0 ++ behind) = sym e ∙ space ∙ ap (λ l. 32 ∷ l) (spelled ∙ ap (λ l. l ++ behind) first.1.1) in
-    let below : first.0 < 48 = ends.word first.0 (first.1.0 ++ behind) is in
+    let below : first.0 < 48 = ends.1 first.0 (first.1.0 ++ behind) is in
     absurd (omega (arith, below, first.1.2))
 args_only text after behind result number old mid new space spelled low added only more (c ∷ cs) rest fits room ends e =
     let two = only c.0 (args_text cs ++ rest) fits.0 (ends_args cs rest ends) (behind_space after _ (sym space ∙ e ∙ args_assoc c cs rest)) in

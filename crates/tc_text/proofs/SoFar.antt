@@ -1,7 +1,7 @@
 -- How far a list of moves is read.
-use Rattle.std.{proofs.{Common.{◌≡◌, ◌≢◌, ◌∙◌, ◌+◌, ℕ, List, [], ◌∷◌, ◌++◌, length, map, sym, ap, refl, append_assoc, arith}, lemmas.List.{append-nil, length-append}}, specs.List.AllByRecursion}
+use Rattle.std.{proofs.{Common.{◌≡◌, ◌≢◌, ◌∙◌, ◌+◌, inl, inr, ℕ, List, [], ◌∷◌, ◌++◌, length, map, sym, ap, refl, append_assoc, arith}, lemmas.List.{append-nil, length-append, length-map}}, specs.List.AllByRecursion}
 use Rattle.tc_entry.specs.Prelude.{IsBehaviours}
-use Rattle.tc_text.{specs.{Inside.IsNoMove, MoveList.{IsBadFirstLine, IsBadMove, IsMadeOfMoves, IsMove, IsMoveList, Move, behaviours_line, lines_of, list_lines, move_line}}, proofs.Lemmas.LinesOf.some_line}
+use Rattle.tc_text.{specs.{Inside.{IsMadeOfMoves, IsNoMove, behaviours_line, list_lines, move_line}, MoveList.{IsListFault, IsMove, IsMoveList, Move, lines_of}, declared.fault.{TextFault.TextFault, TextKind.TextKind}}, proofs.Lemmas.LinesOf.some_line}
 
 -- the moves are the ones read, and those that the rest spells
 pub record Remains (moves : List Move) (rest : List ℕ) (all : List Move) : Type 0 where
@@ -68,23 +68,61 @@ goes_on text n moves new rest after m so spelled fits only added = record {
   only = λ k ms list. let so_far = so.only k ms list in (so_far.0, one_more rest after m moves new ms only added (some_lines (move_line m) (lines_of after) (lines_of rest) spelled) so_far.1);
 }
 
-pub bad_first : (text : List ℕ) → text ≢ [] → ((n : ℕ) (others : List (List ℕ)) → IsBehaviours n → lines_of text ≡ behaviours_line n ∷ others → ⊥) → IsBadFirstLine text × (◌≡◌ {A = ℕ} 1 1)
-bad_first text some never = let line = some_line text some in ((some_lines line.0 line.1.0 (lines_of text) line.1.1, λ n others right lines. never n others right lines), refl)
+others_are : (x y : List ℕ) (xs ys : List (List ℕ)) → x ∷ xs ≡ y ∷ ys → xs ≡ ys
+others_are x y xs ys e = cc
 
-pub bad_move : (text : List ℕ) (n count : ℕ) (moves : List Move) (rest : List ℕ) → count ≡ length moves → rest ≢ [] → SoFar text n moves rest → IsNoMove rest → IsBadMove text (count + 2)
+-- the line after these is that of a move
+move_after : (lines : List (List ℕ)) (bad : List ℕ) (more : List (List ℕ)) (all : List Move) → (lines ++ bad ∷ []) ++ more ≡ map move_line all → AllByRecursion IsMove all → (m : Move) × IsMove m × (bad ≡ move_line m)
+move_after lines bad more [] e fits = absurd (none lines e)
+  where
+    none : (ls : List (List ℕ)) → (ls ++ bad ∷ []) ++ more ≡ [] → ⊥
+    none [] e = cc
+    none (l ∷ ls) e = cc
+move_after [] bad more (m ∷ ms) e fits = (m, fits.0, this e)
+  where
+    this : bad ∷ more ≡ move_line m ∷ map move_line ms → bad ≡ move_line m
+    this e = cc
+move_after (l ∷ ls) bad more (m ∷ ms) e fits = move_after ls bad more ms (others_are l (move_line m) _ _ e) fits.1
+
+pub bad_first : (text : List ℕ) → text ≢ [] → ((n : ℕ) (others : List (List ℕ)) → IsBehaviours n → lines_of text ≡ behaviours_line n ∷ others → ⊥) → IsListFault text (TextFault.At 1 TextKind.FirstLine)
+bad_first text some never =
+    let line = some_line text some in
+    record {
+      before = [];
+      rest = line.0 ∷ line.1.0;
+      lines = line.1.1;
+      number = refl;
+      right = (behaviours_line 1 ∷ [], (1, [], record { behaviours = (omega arith, omega arith); fits = tt; lines = refl }));
+      fault = (λ can. let list = can.1.2 in let e = list.lines in never can.1.0 line.1.0 list.behaviours (line.1.1 ∙ ap (λ l. l ∷ line.1.0) cc), inl (refl, refl));
+    }
+
+pub bad_move : (text : List ℕ) (n count : ℕ) (moves : List Move) (rest : List ℕ) → count ≡ length moves → rest ≢ [] → SoFar text n moves rest → IsNoMove rest → IsListFault text (TextFault.At (count + 2) TextKind.Move)
 bad_move text n count moves rest counted some so never =
     let line = some_line rest some in
     record {
-      behaviours = n;
-      moves = moves;
-      bad_line = line.0;
-      others = line.1.0;
-      right = so.right;
-      fits = so.fits;
+      before = list_lines n moves;
+      rest = line.0 ∷ line.1.0;
       lines = so.lines ∙ ap (λ l. list_lines n moves ++ l) line.1.1;
-      number = ap (λ k. k + 2) counted;
-      bad = λ m fits e. never m line.1.0 fits (line.1.1 ∙ ap (λ l. l ∷ line.1.0) e);
+      number = let few = length-map moves move_line in omega (arith, counted, few);
+      right = ([], (n, moves, record { behaviours = so.right; fits = so.fits; lines = append-nil (list_lines n moves) }));
+      fault = (
+        λ can.
+            let list = can.1.2 in
+            let that = move_after (map move_line moves) line.0 can.0 can.1.1 (others_are (behaviours_line n) (behaviours_line can.1.0) _ _ list.lines) list.fits in
+            never that.0 line.1.0 that.1 (line.1.1 ∙ ap (λ l. l ∷ line.1.0) that.2),
+        inr (refl, λ none. cc),
+      );
     }
+
+pub no_lines : (text : List ℕ) → text ≡ [] → IsListFault text (TextFault.At 1 TextKind.Early)
+no_lines text none = record {
+  before = [];
+  rest = [];
+  lines = ap lines_of none;
+  number = refl;
+  right = (behaviours_line 1 ∷ [], (1, [], record { behaviours = (omega arith, omega arith); fits = tt; lines = refl }));
+  fault = (refl, λ list. refl);
+}
 
 pub no_list : (text : List ℕ) (n : ℕ) (moves : List Move) (rest : List ℕ) → rest ≢ [] → SoFar text n moves rest → IsNoMove rest → (k : ℕ) (ms : List Move) → IsMoveList text k ms → ⊥
 no_list text n moves rest some so never k ms list = by_tail r.tail r.spelled r.fits
@@ -133,7 +171,7 @@ made_more stands text n line rest after value value' m so spelled fits only take
     }
 
 pub made_all : {T : Type 0} (stands : ℕ → List Move → T → Type 0) (text : List ℕ) (n line : ℕ) (rest : List ℕ) (value : T) → IsMadeSoFar stands text n line rest value → rest ≡ [] → IsMadeOfMoves stands text value
-made_all stands text n line rest value so none = record { behaviours = n; moves = so.moves; list = is_done text n so.moves rest so.read none; made = so.made }
+made_all stands text n line rest value so none = (n, so.moves, is_done text n so.moves rest so.read none, so.made)
 
 pub made_only : {T : Type 0} (stands : ℕ → List Move → T → Type 0) (text : List ℕ) (n line : ℕ) (rest : List ℕ) (value : T) → IsMadeSoFar stands text n line rest value → rest ≡ [] →
     (k : ℕ) (ms : List Move) → IsMoveList text k ms → stands k ms value
@@ -142,5 +180,5 @@ made_only stands text n line rest value so none k ms list =
     let made = so.made in
     rw two.0 at (rw two.1 at made)
 
-pub made_bad : {T : Type 0} (stands : ℕ → List Move → T → Type 0) (text : List ℕ) (n line : ℕ) (rest : List ℕ) (value : T) → IsMadeSoFar stands text n line rest value → rest ≢ [] → IsNoMove rest → IsBadMove text line
+pub made_bad : {T : Type 0} (stands : ℕ → List Move → T → Type 0) (text : List ℕ) (n line : ℕ) (rest : List ℕ) (value : T) → IsMadeSoFar stands text n line rest value → rest ≢ [] → IsNoMove rest → IsListFault text (TextFault.At line TextKind.Move)
 made_bad stands text n line rest value so some never = rw so.line_is (bad_move text n (length so.moves) so.moves rest refl some so.read never)

@@ -1,7 +1,7 @@
 -- What only the way the texts are read needs: no public clause names a word of this file.
-use Rattle.std.specs.{Prelude.{ℕ, ◌≡◌, ◌≢◌, ◌<◌, ◌≤◌, ◌+◌, ◌-◌, ◌*◌, ◌^◌, ◌++◌, codes, drop, length, take, Bool, true, false, if◌then◌else◌, List, [], ◌∷◌, Option, Some, None, MatchOption, slice_get}, Borrow.Bor, Char.is_ascii_digit, Fmt.decimal, Str.all_ascii_digits, List.AllByRecursion}
+use Rattle.std.specs.{Prelude.{ℕ, ◌≡◌, ◌≢◌, ◌<◌, ◌≤◌, ◌+◌, ◌-◌, ◌*◌, ◌^◌, ◌++◌, codes, drop, length, map, take, Bool, true, false, if◌then◌else◌, List, [], ◌∷◌, Option, Some, None, MatchOption, slice_get}, Borrow.Bor, Char.is_ascii_digit, Fmt.decimal, Str.all_ascii_digits, List.AllByRecursion}
 use Rattle.tc_entry.specs.{Prelude.{Run, given, name_of}, declared.comp.Comp.Comp, declared.op.Op.Op, declared.op.Target.Target}
-use Rattle.tc_text.specs.{MoveList.{IsMove, Move, lines_of, move_line}, Said.{ends_word, is_plain}, Spelling.{args_text, group_text, target_text, IsComp}, declared.{said.Part.Part, verb.{Status.Status, Verb.Verb}}}
+use Rattle.tc_text.specs.{MoveList.{IsMove, IsMoveList, Move, lines_of}, Said.{ends_word, is_plain}, Spelling.{args_text, group_text, move_text, target_text, IsComp}, declared.{said.Part.Part, verb.{Status.Status, Verb.Verb}}}
 
 -- the byte, or a question mark for one that is not printable
 abbrev pub as_printable : ℕ → ℕ
@@ -10,6 +10,22 @@ as_printable b = if is_plain b then b else 63
 -- components, each with a number of 32 bits
 abbrev pub AreComps : List Comp → Type 0
 AreComps cs = AllByRecursion IsComp cs
+
+-- the line of a move
+abbrev pub move_line : Move → List ℕ
+move_line m = move_text m.0.0 m.1
+
+-- the first line of a list of moves of n behaviours
+abbrev pub behaviours_line : ℕ → List ℕ
+behaviours_line n = codes "behaviours " ++ decimal n
+
+-- the lines of a list of moves
+abbrev pub list_lines : ℕ → List Move → List (List ℕ)
+list_lines n moves = behaviours_line n ∷ map move_line moves
+
+-- the value is what the moves of the text make
+abbrev pub IsMadeOfMoves : {T : Type 0} → (ℕ → List Move → T → Type 0) → List ℕ → T → Type 0
+IsMadeOfMoves stands text value = (n : ℕ) × (moves : List Move) × IsMoveList text n moves × stands n moves value
 
 -- this value was read of a line, and these lines are after it
 abbrev pub TakesLine : {A : Type 0} → Option (A × Bor (List ℕ)) → A → List (List ℕ) → Type 0

@@ -1,5 +1,5 @@
 -- The lines of a text, lists of moves as texts, and what is wrong with other texts.
-use Rattle.std.specs.{Prelude.{ℕ, ◌==◌, if◌then◌else◌, List, [], ◌∷◌, ◌≡◌, ◌≢◌, ◌<◌, ◌+◌, ◌^◌, ◌++◌, length, map, codes}, Fmt.decimal, List.{AllByRecursion, onto_first}}
+use Rattle.std.specs.{Prelude.{ℕ, ◌==◌, if◌then◌else◌, List, [], ◌∷◌, ◌≡◌, ◌⊎◌, ◌<◌, ◌+◌, ◌^◌, ◌++◌, length, map, codes}, Fmt.decimal, List.{AllByRecursion, onto_first}}
 use Rattle.tc_entry.specs.{Prelude.{IsBehaviours, Run}, declared.op.Op.Op}
 use Rattle.tc_text.specs.{Spelling.{IsOp, move_text}, declared.fault.TextFault.TextFault, declared.fault.TextKind.TextKind}
 use Rattle.tc_verdict.specs.Prelude.{early_text, memory_text}
@@ -13,58 +13,50 @@ lines_of (b ∷ bs) = if b == 10 then [] ∷ lines_of bs else onto_first b (line
 abbrev pub Move : Type 0
 Move = Run × Op
 
--- the line of a move
-abbrev pub move_line : Move → List ℕ
-move_line m = move_text m.0.0 m.1
-
--- the first line of a list of moves of n behaviours
-abbrev pub behaviours_line : ℕ → List ℕ
-behaviours_line n = codes "behaviours " ++ decimal n
-
--- the lines of a list of moves
-abbrev pub list_lines : ℕ → List Move → List (List ℕ)
-list_lines n moves = behaviours_line n ∷ map move_line moves
-
 -- a move whose numbers are those of their types
 abbrev pub IsMove : Move → Type 0
 IsMove m = (m.0.0 < 2 ^ 16) × IsOp m.1
 
--- the text is that of n behaviours and these moves
-pub record IsMoveList (text : List ℕ) (n : ℕ) (moves : List Move) : Type 0 where
+-- these are the lines of n behaviours and these moves
+pub record AreMoveLines (n : ℕ) (moves : List Move) (all : List (List ℕ)) : Type 0 where
   pub behaviours : IsBehaviours n
   pub fits : AllByRecursion IsMove moves
-  pub lines : lines_of text ≡ list_lines n moves
+  pub lines : all ≡ (codes "behaviours " ++ decimal n) ∷ map (λ m. move_text m.0.0 m.1) moves
 
--- the value is what the moves of the text make
-pub record IsMadeOfMoves {T : Type 0} (stands : ℕ → List Move → T → Type 0) (text : List ℕ) (value : T) : Type 0 where
-  pub behaviours : ℕ
-  pub moves : List Move
-  pub list : IsMoveList text behaviours moves
-  pub made : stands behaviours moves value
+-- the text is that of n behaviours and these moves
+abbrev pub IsMoveList : List ℕ → ℕ → List Move → Type 0
+IsMoveList text n moves = AreMoveLines n moves (lines_of text)
 
--- there is a first line, and it gives no number of behaviours
-abbrev pub IsBadFirstLine : List ℕ → Type 0
-IsBadFirstLine text = (lines_of text ≢ []) × ((n : ℕ) (others : List (List ℕ)) → IsBehaviours n → lines_of text ≢ behaviours_line n ∷ others)
+-- the lines can be continued to right ones
+abbrev pub CanContinue : (List (List ℕ) → Type 0) → List (List ℕ) → Type 0
+CanContinue AreRight lines = (more : List (List ℕ)) × AreRight (lines ++ more)
 
--- a right first line and some moves, and then, in the line of this number, no move
-pub record IsBadMove (text : List ℕ) (line : ℕ) : Type 0 where
-  pub behaviours : ℕ
-  pub moves : List Move
-  pub bad_line : List ℕ
-  pub others : List (List ℕ)
-  pub right : IsBehaviours behaviours
-  pub fits : AllByRecursion IsMove moves
-  pub lines : lines_of text ≡ list_lines behaviours moves ++ bad_line ∷ others
-  pub number : line ≡ length moves + 2
-  pub bad : (m : Move) → IsMove m → bad_line ≡ move_line m → ⊥
+-- After lines that can be continued, the rest has a fault of this kind: it is empty, while these are some and not right
+-- ones. Or its first line can't come there, where a first line should begin, or another one.
+abbrev pub IsFaultAfter : (AreRight Begins : List (List ℕ) → Type 0) → TextKind → List (List ℕ) → List (List ℕ) → TextKind → Type 0
+IsFaultAfter AreRight Begins other lines [] kind = (kind ≡ TextKind.Early) × (AreRight lines → lines ≡ [])
+IsFaultAfter AreRight Begins other lines (next ∷ rest) kind = (CanContinue AreRight (lines ++ next ∷ []) → ⊥)
+    × (((kind ≡ TextKind.FirstLine) × Begins lines) ⊎ ((kind ≡ other) × (Begins lines → ⊥)))
 
--- the first fault of the text, read as a list of moves, is of this kind and in this line; if memory runs out, nothing is said
+-- the lines of the text before this one can be continued, and after them comes a fault of this kind
+pub record IsFaultAt (AreRight Begins : List (List ℕ) → Type 0) (other : TextKind) (text : List ℕ) (line : ℕ) (kind : TextKind) : Type 0 where
+  pub before : List (List ℕ)
+  pub rest : List (List ℕ)
+  pub lines : lines_of text ≡ before ++ rest
+  pub number : line ≡ length before + 1
+  pub right : CanContinue AreRight before
+  pub fault : IsFaultAfter AreRight Begins other before rest kind
+
+-- what a fault says of a text that should have right lines: after which of them a first line begins, and what kind of fault
+-- another line is; if memory runs out, nothing is said
+abbrev pub IsTextFault : (AreRight Begins : List (List ℕ) → Type 0) → TextKind → List ℕ → TextFault → Type 0
+IsTextFault AreRight Begins other text (TextFault.At line kind) = IsFaultAt AreRight Begins other text line kind
+IsTextFault AreRight Begins other text TextFault.NoMemory = Unit {0}
+
+-- what a fault says of a text that should be a list of moves
 abbrev pub IsListFault : List ℕ → TextFault → Type 0
-IsListFault text (TextFault.At line TextKind.Early) = (lines_of text ≡ []) × (line ≡ 1)
-IsListFault text (TextFault.At line TextKind.FirstLine) = IsBadFirstLine text × (line ≡ 1)
-IsListFault text (TextFault.At line TextKind.Move) = IsBadMove text line
-IsListFault text (TextFault.At line TextKind.Entry) = ⊥
-IsListFault text TextFault.NoMemory = Unit {0}
+IsListFault text fault =
+    IsTextFault (λ lines. (n : ℕ) × (moves : List Move) × AreMoveLines n moves lines) (λ before. before ≡ []) TextKind.Move text fault
 
 -- the words that name a fault
 abbrev pub text_kind_text : TextKind → List ℕ

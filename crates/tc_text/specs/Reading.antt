@@ -1,5 +1,5 @@
 -- What the readers of moves speak of among themselves.
-use Rattle.std.specs.{Prelude.{ℕ, ◌≡◌, ◌≢◌, ◌<◌, ◌⊎◌, true, false, List, [], ◌∷◌, Option, None, MatchOption}, Borrow.Bor}
+use Rattle.std.specs.{Prelude.{ℕ, ◌≡◌, ◌<◌, ◌⊎◌, true, false, List, [], ◌∷◌, Option, None, MatchOption}, Borrow.Bor}
 use Rattle.tc_entry.specs.declared.op.Op.{Op}
 use Rattle.tc_text.specs.declared.short.ShortOp.{ShortOp}
 
@@ -11,15 +11,9 @@ Takes found value rest = MatchOption found ⊥ (λ r. (r.0 ≡ value) × (r.1.no
 abbrev pub EndsNumber : List ℕ → Type 0
 EndsNumber text = (b : ℕ) (rest : List ℕ) → text ≡ b ∷ rest → b < 48
 
--- what may be after a move: neither a digit nor a letter comes first, nor after a space
-pub record EndsMove (text : List ℕ) : Type 0 where
-  pub number : EndsNumber text
-  pub word : (b : ℕ) (rest : List ℕ) → text ≡ 32 ∷ b ∷ rest → b < 48
-
--- what may be after a reply: neither a digit nor a letter comes first, nor a space
-pub record EndsReply (text : List ℕ) : Type 0 where
-  pub number : EndsNumber text
-  pub no_space : (rest : List ℕ) → text ≢ 32 ∷ rest
+-- what may be after a move or a reply: neither a digit nor a letter comes first, nor after a space
+abbrev pub EndsMove : List ℕ → Type 0
+EndsMove text = EndsNumber text × ((b : ℕ) (rest : List ℕ) → text ≡ 32 ∷ b ∷ rest → b < 48)
 
 -- the operation that a short one is
 abbrev pub op_of : ShortOp → Op

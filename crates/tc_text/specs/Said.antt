@@ -1,6 +1,6 @@
 -- Bytes that are shown to a reader, and lines for a reader next to an answer, by what matters of each: its numbers and
 -- its names. No clause spells the prose around them.
-use Rattle.std.specs.{Prelude.{ℕ, ◌&&◌, nat_le, Bool, ◌≡◌, ◌⊎◌, not, true, List, [], ◌∷◌, ◌++◌, map, if◌then◌else◌}, Fmt.decimal}
+use Rattle.std.specs.{Prelude.{ℕ, ◌&&◌, nat_le, Bool, ◌≡◌, ◌⊎◌, not, true, List, [], ◌∷◌, ◌++◌, map, if◌then◌else◌}, Fmt.decimal, List.flat_map}
 use Rattle.tc_entry.specs.Prelude.{is_name_byte}
 use Rattle.tc_text.specs.declared.said.Part.{Part}
 
@@ -31,20 +31,15 @@ shown_line text = 32 ∷ (map (λ b. if is_plain b then b else 63) text ++ 10 �
 unfoldable pub TellsLine : Line → List ℕ → List ℕ → Type 0
 TellsLine words before after = (text : List ℕ) × (after ≡ before ++ shown_line text) × Holds words text
 
--- a line is appended for each of these, in their order
-unfoldable pub Tells : List Line → List ℕ → List ℕ → Type 0
-Tells [] before after = after ≡ before
-Tells (line ∷ lines) before after = (middle : List ℕ) × TellsLine line before middle × Tells lines middle after
-
--- the first lines are among the second, in their order
-abbrev pub AreAmong : List Line → List Line → Type 0
-AreAmong [] all = Unit {0}
+-- among these texts some hold these words, in their order
+abbrev pub AreAmong : List Line → List (List ℕ) → Type 0
+AreAmong [] texts = Unit {0}
 AreAmong (line ∷ lines) [] = ⊥
-AreAmong (line ∷ lines) (first ∷ all) = ((line ≡ first) × AreAmong lines all) ⊎ AreAmong (line ∷ lines) all
+AreAmong (line ∷ lines) (text ∷ texts) = (Holds line text × AreAmong lines texts) ⊎ AreAmong (line ∷ lines) texts
 
--- lines are appended, and these are among them
+-- lines are appended, and among them are some that hold these words
 unfoldable pub TellsAmong : List Line → List ℕ → List ℕ → Type 0
-TellsAmong lines before after = (all : List Line) × AreAmong lines all × Tells all before after
+TellsAmong lines before after = (texts : List (List ℕ)) × (after ≡ before ++ flat_map shown_line texts) × AreAmong lines texts
 
 -- what a part of a line holds
 abbrev pub part_words : Part → Line

@@ -68,10 +68,7 @@ pub(crate) fn value_after<'a, T: Copy>(
 ) -> Option<(T, &'a [u8])>
     ensures { MatchOption result ((rest : List ℕ) → text.now ≢ word.now ++ rest) (λ r. (r.0 ≡ value) × (text.now ≡ word.now ++ r.1.now)) }
 {
-    match after(text, word) {
-        Some(rest) => Some((value, rest)),
-        None => None,
-    }
+    Some((value, after(text, word)?))
 }
 
 /// What follows the end of a line, if the text begins with that end: an LF, or nothing.

@@ -1,7 +1,7 @@
 //! Lists of moves as texts.
-ghost use Rattle.std.specs.Prelude.{◌≡◌, ◌<◌, ◌++◌, ℕ, List, [], ◌∷◌, length, Some, IfSome, IfNone, IfOk, IfErr, OnOk, MatchOption, MatchResult};
+ghost use Rattle.std.specs.Prelude.{◌≡◌, ◌++◌, ℕ, List, [], ◌∷◌, Some, IfSome, IfNone, IfOk, IfErr, OnOk, MatchOption, MatchResult};
 ghost use Rattle.tc_entry.specs.Prelude.{IsBehaviours};
-ghost use Rattle.tc_text.specs.{Inside.IsMoveTakenBy, Inside.IsNoMove, Inside.TakesLine, MoveList.IsListFault, MoveList.IsMadeOfMoves, MoveList.IsMove, MoveList.IsMoveList, MoveList.Move as AnyMove, MoveList.behaviours_line, MoveList.lines_of, MoveList.move_line, Reading.op_of, Spelling.IsLong};
+ghost use Rattle.tc_text.specs.{Inside.{IsMoveTakenBy, IsNoMove, TakesLine, behaviours_line}, MoveList.{IsListFault, IsMoveList, Move as AnyMove, lines_of}, Reading.op_of};
 
 use crate::cursor::{after, take_line_end};
 use crate::fault::{TextFault, TextKind};
@@ -40,35 +40,6 @@ fn take_first_line(text: &[u8]) -> Option<(u16, &[u8])>
     let (number, rest) = take_number(rest)?;
     let rest = take_line_end(rest)?;
     Some((as_behaviours(number)?, rest))
-}
-
-// The move that the first line spells, and what follows that line.
-fn take_move_line(text: &[u8]) -> Option<((Run, Op), &[u8])>
-    ensures spelled { IfSome result (λ r. lines_of text.now ≡ move_line r.0 ∷ lines_of r.1.now) }
-    ensures fits { IfSome result (λ r. IsMove r.0) }
-    ensures less { IfSome result (λ r. length r.1.now < length text.now) }
-    ensures only { (m : AnyMove) (others : List (List ℕ)) → IsMove m → lines_of text.now ≡ move_line m ∷ others → TakesLine result m others }
-{
-    let (one, rest) = take_move(text)?;
-    let rest = take_line_end(rest)?;
-    Some((one, rest))
-}
-
-// The caller and the operation of the move that the first line spells, if the operation is a short one, and what follows
-// that line; None also if it is a long one.
-#[inline(always)]
-fn take_short_line<T>(text: &[u8]) -> Option<((Run, ShortOp), &[u8])>
-    ensures spelled { IfSome result (λ r. lines_of text.now ≡ move_line (r.0.0, op_of r.0.1) ∷ lines_of r.1.now) }
-    ensures fits { IfSome result (λ r. IsMove (r.0.0, op_of r.0.1)) }
-    ensures less { IfSome result (λ r. length r.1.now < length text.now) }
-    ensures only { (m : AnyMove) (others : List (List ℕ)) → IsMove m → lines_of text.now ≡ move_line m ∷ others
-        → MatchOption result (IsLong m.1) (λ r. ((r.0.0, op_of r.0.1) ≡ m) × (lines_of r.1.now ≡ others)) }
-{
-    let Some((one, rest)) = take_short_move::<T>(text) else {
-        return None;
-    };
-    let rest = take_line_end(rest)?;
-    Some((one, rest))
 }
 
 /// What is made of a list of moves, one move after the other.
@@ -114,7 +85,10 @@ fn take_any<'a, T: TakesMoves>(made: &mut T, text: &'a [u8]) -> Result<Option<&'
     ensures { IfOk result (λ found. MatchOption found (IsNoMove text.now)
         (λ rest. IsMoveTakenBy T.stands text.now made.old made.new rest.now)) }
 {
-    let Some((one, rest)) = take_move_line(text) else {
+    let Some((one, rest)) = take_move(text) else {
+        return Ok(None);
+    };
+    let Some(rest) = take_line_end(rest) else {
         return Ok(None);
     };
     made.take(one)?;
@@ -127,8 +101,11 @@ fn take_next<'a, T: TakesMoves>(made: &mut T, text: &'a [u8]) -> Result<Option<&
     ensures { IfOk result (λ found. MatchOption found (IsNoMove text.now)
         (λ rest. IsMoveTakenBy T.stands text.now made.old made.new rest.now)) }
 {
-    let Some(((caller, short), rest)) = take_short_line::<T>(text) else {
+    let Some(((caller, short), rest)) = take_short_move::<T>(text) else {
         return take_any(made, text);
+    };
+    let Some(rest) = take_line_end(rest) else {
+        return Ok(None);
     };
     made.take_short(caller, short)?;
     Ok(Some(rest))
@@ -136,7 +113,7 @@ fn take_next<'a, T: TakesMoves>(made: &mut T, text: &'a [u8]) -> Result<Option<&
 
 /// What the moves that the text spells make, otherwise the text's first fault; NoMemory may come instead.
 pub fn read_moves_into<T: TakesMoves + Drop>(alloc: Global, text: &[u8]) -> Result<T, TextFault>
-    ensures ok { IfOk result (IsMadeOfMoves T.stands text.now) }
+    ensures ok { IfOk result (λ made. (n : ℕ) × (moves : List AnyMove) × IsMoveList text.now n moves × T.stands n moves made) }
     ensures fault { IfErr result (λ e. IsListFault text.now e) }
     ensures only { (n : ℕ) (moves : List AnyMove) → IsMoveList text.now n moves
         → MatchResult result (λ made. T.stands n moves made) (λ e. e ≡ TextFault.NoMemory) }

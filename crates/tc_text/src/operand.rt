@@ -4,9 +4,8 @@ ghost use Rattle.tc_entry.specs.{declared.limits.TheConstants.ARGUMENTS, declare
 ghost use Rattle.tc_text.specs.{Inside.{EndsKind, kind_text, named_text, operand_text, verb_of, AreComps, start_text}, Reading.{EndsMove, EndsNumber, Takes}, Spelling.{IsGroup, IsOp, IsTarget, args_text, group_text, target_text}, declared.verb.Verb.Verb};
 
 use crate::cursor::after;
-use crate::name::take_name;
+use crate::name::{take_name, take_verdict};
 use crate::number::take_number;
-use crate::verdict::take_verdict;
 use tc_entry::{Args, Comp, Group, Op, Run, Target, UserVerdict};
 use tc_verdict::to_user;
 

@@ -1,19 +1,20 @@
 //! The texts of replies.
-ghost use Rattle.std.specs.{Prelude.{◌≡◌, ◌++◌, ℕ, List, Some, IfSome, OnOk, OnErr}, Io.StartsWith};
+ghost use Rattle.std.specs.{Prelude.{◌≡◌, ◌++◌, ℕ, List, Some, IfSome, OnOk, OnErr, codes}, Io.StartsWith};
 ghost use Rattle.tc_entry.specs.{Prelude.fault_name, declared.reply.Reply.TheVariants.Made};
-ghost use Rattle.tc_text.specs.{Inside.BeginsWithE, Reading.EndsReply, Reading.Takes, Spelling.IsReply, Spelling.reply_text};
+ghost use Rattle.tc_text.specs.{Inside.BeginsWithE, Reading.EndsMove, Reading.Takes, Spelling.IsReply, Spelling.reply_text};
 
-use crate::append::{append_number, append_text};
 use crate::cursor::{after, value_after};
 use crate::number::take_number;
+use crate::writing::{append_number, append_text};
 use tc_entry::{Comp, Fault, NoMemory, Reply, Verdict, name_of_fault};
 use tc_verdict::name;
 
-// The name of a dynamic error that the text begins with, and what follows it.
+// The name of a dynamic error that the text begins with after a space, and what follows it.
 fn take_fault(text: &[u8]) -> Option<(Fault, &[u8])>
-    ensures spelled { IfSome result (λ r. text.now ≡ fault_name r.0 ++ r.1.now) }
-    ensures only { (f : Fault) (rest : List ℕ) → text.now ≡ fault_name f ++ rest → Takes result f rest }
+    ensures spelled { IfSome result (λ r. text.now ≡ codes " " ++ (fault_name r.0 ++ r.1.now)) }
+    ensures only { (f : Fault) (rest : List ℕ) → text.now ≡ codes " " ++ (fault_name f ++ rest) → Takes result f rest }
 {
+    let text = after(text, b" ")?;
     if let Some(rest) = after(text, b"no-component") {
         Some((Fault::NoComponent, rest))
     } else if let Some(rest) = after(text, b"not-main") {
@@ -37,19 +38,20 @@ fn take_fault(text: &[u8]) -> Option<(Fault, &[u8])>
 
 // The reply that the text begins with, if its first letter is an e.
 #[inline(always)]
+#[tactic(auto, using(crate::proofs::Operands::no_fault_after))]
 fn take_end_or_error(text: &[u8]) -> Option<(Reply, &[u8])>
     ensures spelled { IfSome result (λ r. text.now ≡ reply_text r.0 ++ r.1.now) }
     ensures fits { IfSome result (λ r. IsReply r.0) }
-    ensures only { (r : Reply) (rest : List ℕ) → BeginsWithE text.now → EndsReply rest → text.now ≡ reply_text r ++ rest → Takes result r rest }
+    ensures only { (r : Reply) (rest : List ℕ) → BeginsWithE text.now → EndsMove rest → text.now ≡ reply_text r ++ rest → Takes result r rest }
 {
     if let Some(rest) = after(text, b"ended") {
         return Some((Reply::Ended, rest));
     }
-    if let Some(rest) = after(text, b"error ") {
-        let (fault, rest) = take_fault(rest)?;
-        return Some((Reply::Fault(fault), rest));
+    let rest = after(text, b"error")?;
+    match take_fault(rest) {
+        Some((fault, rest)) => Some((Reply::Fault(fault), rest)),
+        None => Some((Reply::Local(Verdict::Error), rest)),
     }
-    Some((Reply::Local(Verdict::Error), after(text, b"error")?))
 }
 
 // The reply to a create that the text begins with.
@@ -57,7 +59,7 @@ fn take_end_or_error(text: &[u8]) -> Option<(Reply, &[u8])>
 fn take_made(text: &[u8]) -> Option<(Reply, &[u8])>
     ensures spelled { IfSome result (λ r. text.now ≡ reply_text r.0 ++ r.1.now) }
     ensures fits { IfSome result (λ r. IsReply r.0) }
-    ensures only { (comp : Comp) (rest : List ℕ) → IsReply (Made comp) → EndsReply rest
+    ensures only { (comp : Comp) (rest : List ℕ) → IsReply (Made comp) → EndsMove rest
         → text.now ≡ reply_text (Made comp) ++ rest → Takes result (Made comp) rest }
 {
     let (number, rest) = take_number(after(text, b"made ")?)?;
@@ -71,7 +73,7 @@ fn take_made(text: &[u8]) -> Option<(Reply, &[u8])>
 pub fn take_reply<T>(text: &[u8]) -> Option<(Reply, &[u8])>
     ensures spelled { IfSome result (λ r. text.now ≡ reply_text r.0 ++ r.1.now) }
     ensures fits { IfSome result (λ r. IsReply r.0) }
-    ensures only { (r : Reply) (rest : List ℕ) → IsReply r → EndsReply rest → text.now ≡ reply_text r ++ rest → Takes result r rest }
+    ensures only { (r : Reply) (rest : List ℕ) → IsReply r → EndsMove rest → text.now ≡ reply_text r ++ rest → Takes result r rest }
 {
     match *text.first()? {
         b'o' => value_after(text, b"ok", Reply::Ok),
@@ -101,10 +103,8 @@ pub fn read_reply(text: &[u8]) -> Option<Reply>
     ensures fits { IfSome result IsReply }
     ensures only { (r : Reply) → IsReply r → text.now ≡ reply_text r → result ≡ Some r }
 {
-    match take_reply::<()>(text) {
-        Some((reply, rest)) => if rest.is_empty() { Some(reply) } else { None },
-        None => None,
-    }
+    let (reply, rest) = take_reply::<()>(text)?;
+    if rest.is_empty() { Some(reply) } else { None }
 }
 
 // Appends the spelling of the reply; if memory runs out, a part of it.
@@ -137,11 +137,9 @@ pub fn write_reply(out: &mut Vec<u8>, reply: &Reply) -> Result<(), NoMemory>
     ensures err { OnErr result (out.new.items ≡ out.old.items) }
 {
     let start = out.len();
-    match append_reply(out, reply) {
-        Ok(()) => Ok(()),
-        Err(error) => {
-            out.truncate(start);
-            Err(error)
-        }
+    let done = append_reply(out, reply);
+    if done.is_err() {
+        out.truncate(start);
     }
+    done
 }

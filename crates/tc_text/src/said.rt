@@ -2,7 +2,7 @@
 ghost use Rattle.std.specs.Prelude.{◌≡◌, ◌++◌, [], ◌∷◌, IfOk, OnOk, flat_map, map};
 ghost use Rattle.tc_text.specs.{Inside.{part_text, prose_text, as_printable as printable_byte}, Said.{TellsLine, ends_word as word_ends, is_plain as plain, part_words, shown_line}};
 
-use crate::append::append_number;
+use crate::writing::append_number;
 use std::alloc::Global;
 use tc_verdict::NoMemory;
 

@@ -101,23 +101,16 @@ fn take_short_operand<T>(verb: Verb, text: &[u8]) -> Option<(ShortOp, &[u8])>
             }
         }
         Verb::Start => None,
-        Verb::Stop => match take_group(text) {
-            Some((group, rest)) => Some((ShortOp::Stop(group), rest)),
-            None => None,
-        },
-        Verb::Kill => match take_group(text) {
-            Some((group, rest)) => Some((ShortOp::Kill(group), rest)),
-            None => None,
-        },
+        Verb::Stop => take_group(text).map(|(group, rest)| (ShortOp::Stop(group), rest)),
+        Verb::Kill => take_group(text).map(|(group, rest)| (ShortOp::Kill(group), rest)),
         Verb::StopCase => Some((ShortOp::StopCase, text)),
-        Verb::Status(status) => match take_target(text) {
-            Some((target, rest)) => Some((about(status, target), rest)),
-            None => None,
-        },
-        Verb::SetVerdict => match take_setting(text) {
-            Some((setting, rest)) => Some((ShortOp::SetVerdict(setting), rest)),
-            None => None,
-        },
+        Verb::Status(status) => {
+            take_target(text).map(|(target, rest)| (about(status, target), rest))
+        }
+        Verb::SetVerdict => take_setting(text).map(|(setting, rest)| (
+            ShortOp::SetVerdict(setting),
+            rest,
+        )),
         Verb::GetVerdict => Some((ShortOp::GetVerdict, text)),
         Verb::Finish => Some((ShortOp::Finish, text)),
     }
@@ -131,10 +124,8 @@ fn take_short_op<T>(text: &[u8]) -> Option<(ShortOp, &[u8])>
     ensures only { (op : Op) (rest : List ℕ) → IsOp op → EndsMove rest → text.now ≡ op_text op ++ rest
         → MatchOption result (IsLong op) (λ r. (op_of r.0 ≡ op) × (r.1.now ≡ rest)) }
 {
-    match take_verb::<T>(text) {
-        Some((verb, rest)) => take_short_operand::<T>(verb, rest),
-        None => None,
-    }
+    let (verb, rest) = take_verb::<T>(text)?;
+    take_short_operand::<T>(verb, rest)
 }
 
 /// The move that the text begins with, and what follows it; None also if its operation is a Start, or a Create with a

@@ -1,11 +1,29 @@
-//! Writing moves.
-ghost use Rattle.std.specs.{Prelude.{◌≡◌, ◌++◌, OnOk, OnErr}, Io.StartsWith};
+//! Writing moves, and what they are made of.
+ghost use Rattle.std.specs.{Prelude.{◌≡◌, ◌++◌, OnOk, OnErr}, Fmt.decimal, Io.StartsWith};
 ghost use Rattle.tc_text.specs.{Inside.operand_text, Spelling.args_text, Spelling.group_text, Spelling.move_text, Spelling.op_text, Spelling.target_text};
 
-use crate::append::{append_number, append_text};
 use crate::verb::Verb;
+use itoa::Buffer;
 use tc_entry::{Comp, Group, Name, NoMemory, Op, Run, Target};
 use tc_verdict::{from_user, name};
+
+/// Appends the text. If memory runs out, nothing is appended.
+pub fn append_text(out: &mut Vec<u8>, text: &str) -> Result<(), NoMemory>
+    ensures ok { OnOk result (out.new.items ≡ out.old.items ++ text.now) }
+    ensures err { OnErr result (out.new.items ≡ out.old.items) }
+{
+    out.extend_from_slice(text.as_bytes())?;
+    Ok(())
+}
+
+/// Appends the decimal digits of the number. If memory runs out, nothing is appended.
+pub fn append_number(out: &mut Vec<u8>, number: u64) -> Result<(), NoMemory>
+    ensures ok { OnOk result (out.new.items ≡ out.old.items ++ decimal number) }
+    ensures err { OnErr result (out.new.items ≡ out.old.items) }
+{
+    let mut digits = Buffer::new();
+    append_text(out, digits.format(number))
+}
 
 fn append_group(out: &mut Vec<u8>, group: Group) -> Result<(), NoMemory>
     ensures ok { OnOk result (out.new.items ≡ out.old.items ++ group_text group) }
@@ -70,10 +88,12 @@ fn append_operand(out: &mut Vec<u8>, op: &Op) -> Result<(), NoMemory>
             append_args(out, args.as_slice())
         }
         Op::Stop(group) | Op::Kill(group) => append_group(out, *group),
-        Op::Running(target) | Op::Alive(target) | Op::Done(target) | Op::Killed(target) => {
-            append_target(out, *target)
-        }
-        Op::Wait { target, .. } | Op::Wake { target, .. } => append_target(out, *target),
+        Op::Running(target)
+        | Op::Alive(target)
+        | Op::Done(target)
+        | Op::Killed(target)
+        | Op::Wait { target, .. }
+        | Op::Wake { target, .. } => append_target(out, *target),
         Op::SetVerdict(verdict) => append_text(out, name(from_user(*verdict))),
     }
 }
@@ -104,13 +124,11 @@ pub fn write_op(out: &mut Vec<u8>, op: &Op) -> Result<(), NoMemory>
     ensures err { OnErr result (out.new.items ≡ out.old.items) }
 {
     let start = out.len();
-    match append_op(out, op) {
-        Ok(()) => Ok(()),
-        Err(error) => {
-            out.truncate(start);
-            Err(error)
-        }
+    let done = append_op(out, op);
+    if done.is_err() {
+        out.truncate(start);
     }
+    done
 }
 
 /// Appends the spelling of the move. If memory runs out, nothing is appended.
@@ -119,11 +137,9 @@ pub fn write_move(out: &mut Vec<u8>, caller: Run, op: &Op) -> Result<(), NoMemor
     ensures err { OnErr result (out.new.items ≡ out.old.items) }
 {
     let start = out.len();
-    match append_move(out, caller, op) {
-        Ok(()) => Ok(()),
-        Err(error) => {
-            out.truncate(start);
-            Err(error)
-        }
+    let done = append_move(out, caller, op);
+    if done.is_err() {
+        out.truncate(start);
     }
+    done
 }

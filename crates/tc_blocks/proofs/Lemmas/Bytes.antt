@@ -1,8 +1,8 @@
 -- The bytes of evidence.
-use Rattle.std.{proofs.{Common.{ℕ, ◌≡◌, ◌∙◌, ◌<◌, ◌^◌, ◌+◌, ◌==◌, ◌&&◌, Bool, true, false, if◌then◌else◌, All, IsTrue, Some, None, List, [], ◌∷◌, ◌++◌, codes, length, map, refl, sym, subst, arith}, lemmas.{Bool.Decides.nat_tests, List.{Elements.{All-head, All-tail}, Folds.list_all-append}}}, specs.{Char.is_ascii_digit, Cmp.Derive.both_true, Fmt.decimal, List.{AllByRecursion, list_all, onto_first}, Str.all_ascii_digits}}
+use Rattle.std.{proofs.{Common.{ℕ, ◌≡◌, ◌∙◌, ◌<◌, ◌^◌, ◌+◌, ◌==◌, ◌&&◌, ◌||◌, Bool, true, false, if◌then◌else◌, All, IsTrue, Some, None, List, [], ◌∷◌, ◌++◌, codes, length, map, refl, sym, subst, arith}, lemmas.{Bool.Decides.nat_tests, List.{Elements.{All-head, All-tail}, Folds.list_all-append}}}, specs.{Char.is_ascii_digit, Cmp.Derive.both_true, Fmt.decimal, List.{AllByRecursion, list_all, onto_first}, Str.all_ascii_digits}}
 use Rattle.tc_rules.specs.Prelude.{Verdict, name_of, given, IsBehaviours, IsName, is_name_byte, fault_name, Comp, Entry, Group, Target, Op, Fault, Reply}
 use Rattle.tc_text.{specs.Prelude.{lines_of, is_plain, AreComps, EndsLine, IsGroup, IsOp, IsReply, IsTarget, args_text, group_text, move_text, op_text, reply_text, start_text, target_text}, proofs.Lemmas.{Digits.{both, spelled_digits}, LinesOf.{NoLf, first_line}}}
-use Rattle.tc_blocks.specs.{Block.{header_text, kind_text}, HistoryBlock.{end_text, entry_text}, HistoryText.IsEntry, Inside.mark_text, Laws.{IsSaid, is_quiet_byte, is_text_byte}, Line.{line_text, naming_text, said_text}, Text.{AreBlocks, AreEvidence, AreLines, IsHeader, IsLine, all_lines, block_lines, format_of}, declared.{block.Block.Block, header.{Header.Header, Kind.Kind}, line.Line.Line}}
+use Rattle.tc_blocks.specs.{Block.{header_text, kind_text}, HistoryBlock.{end_text, entry_text}, HistoryText.IsEntry, Inside.{all_lines, is_text_byte, mark_text}, Laws.is_quiet_byte, Line.{line_text, naming_text, said_text}, Text.{AreBlocks, AreEvidence, AreLines, IsHeader, IsLine, block_lines, format_of}, declared.{block.Block.Block, header.{Header.Header, Kind.Kind}, line.Line.Line}}
 
 abbrev pub AreQuiet : List ℕ → Type 0
 AreQuiet bs = list_all is_quiet_byte bs ≡ true
@@ -103,7 +103,7 @@ reply_quiet _ fits = refl
 
 -- ---- the lines of a block
 
-entry_quiet : (f : ℕ) (e : Entry) → IsEntry f e → AreQuiet (entry_text e)
+pub entry_quiet : (f : ℕ) (e : Entry) → IsEntry f e → AreQuiet (entry_text e)
 entry_quiet f e fits =
     quiet-append (move_text e.caller.0 e.op) (codes " -> " ++ reply_text e.reply) (move_quiet e.caller.0 e.op fits.caller fits.op)
     (quiet-append (codes " -> ") (reply_text e.reply) refl (reply_quiet e.reply fits.reply))
@@ -157,16 +157,11 @@ said_plain refused run sentence fits plain =
 below : (k n : ℕ) → k < n → IsBehaviours n → k < 2 ^ 32
 below k n few is = let most = is.1 in omega (arith, few, most)
 
-pub line_quiet : (kind : Kind) (n : ℕ) (before : List Line) (l : Line) → IsBehaviours n → IsLine kind n before l → (IsSaid l → ⊥) → AreQuiet (line_text l)
-line_quiet kind n before (Line.Named run name) is fits quiet = naming_quiet run.0 name (below run.0 n fits.few is) fits.name_is
-line_quiet kind n before (Line.Entry e) is fits quiet = entry_quiet (format_of kind) e fits
-line_quiet kind n before _ is fits quiet = absurd (quiet tt)
-
 pub line_plain : (kind : Kind) (n : ℕ) (before : List Line) (l : Line) → IsBehaviours n → IsLine kind n before l → AreAllPlain (line_text l)
-line_plain kind n before (Line.Named run name) is fits = quiet_plain (naming_text run.0 name) (naming_quiet run.0 name (below run.0 n fits.few is) fits.name_is)
+line_plain kind n before (Line.Named run name) is fits = quiet_plain (naming_text run.0 name) (naming_quiet run.0 name (below run.0 n fits.1 is) fits.2)
 line_plain kind n before (Line.Entry e) is fits = quiet_plain (entry_text e) (entry_quiet (format_of kind) e fits)
-line_plain kind n before (Line.Remark run sentence) is fits = said_plain false run.0 sentence (below run.0 n fits.few is) (sentence_bytes sentence fits.sentence_is.plain)
-line_plain kind n before (Line.Refused run sentence) is fits = said_plain true run.0 sentence (below run.0 n fits.few is) (sentence_bytes sentence fits.sentence_is.plain)
+line_plain kind n before (Line.Remark run sentence) is fits = said_plain false run.0 sentence (below run.0 n fits.1 is) (sentence_bytes sentence fits.2.plain)
+line_plain kind n before (Line.Refused run sentence) is fits = said_plain true run.0 sentence (below run.0 n fits.1 is) (sentence_bytes sentence fits.2.plain)
 
 -- ---- the lines of blocks
 
@@ -236,7 +231,7 @@ text_plain (b ∷ bs) all = by_test (b == 10) refl all (λ rest. text_plain bs r
     by_test false other all more =
         let two = first_plain b (lines_of bs) all in from_both (is_text_byte b) (list_all is_text_byte bs) (plain_is b two.0) (more two.1)
 
-pub evidence_bytes : (text : List ℕ) (blocks : List Block) → AreEvidence text blocks → list_all is_text_byte text ≡ true
+pub evidence_bytes : (text : List ℕ) (blocks : List Block) → AreEvidence text blocks → list_all (λ b. (b == 10) || is_plain b) text ≡ true
 evidence_bytes text blocks are = text_plain text (subst (AllByRecursion AreAllPlain) (sym are.lines) (blocks_plain 1 blocks are.fits))
 
-pub ruleset byte_rules = (evidence_bytes, header_quiet, end_quiet, line_quiet)
+pub ruleset byte_rules = (evidence_bytes, header_quiet, end_quiet, entry_quiet, naming_quiet)

@@ -1,7 +1,7 @@
 -- Texts of histories are evidence, and are written as it.
 use Rattle.std.{proofs.Common.{ℕ, ◌≡◌, ◌≢◌, ◌∙◌, ◌+◌, List, [], ◌∷◌, ◌++◌, codes, length, map, ap, sym, refl, append_assoc}, specs.{Fmt.decimal, List.flat_map}}
 use Rattle.tc_text.specs.Prelude.{lines_of}
-use Rattle.tc_blocks.{specs.{Block.{header_text, kind_text, with_lf}, Histories.{AreHistories, IsHistoryHeader}, Inside.{text_of_history, text_of_block, format_text}, HistoryBlock.{end_text, entry_line}, Laws.history_of, Line.{entries_of, line_text}, Text.{AreBlocks, AreEvidence, AreLines, IsHeader, block_lines, format_of}, declared.{block.Block.Block, header.Kind.Kind, history_block.History.History, line.Line.Line}}, proofs.Lemmas.WrittenEvidence.written_lines}
+use Rattle.tc_blocks.{specs.{Block.{header_text, kind_text, with_lf}, Histories.{AreHistories, IsHistoryHeader}, Inside.{text_of_history, text_of_block, format_text, entry_line}, HistoryBlock.end_text, Laws.history_of, Line.{entries_of, line_text}, Text.{AreBlocks, AreEvidence, AreLines, IsHeader, block_lines, format_of}, declared.{block.Block.Block, header.Kind.Kind, history_block.History.History, line.Line.Line}}, proofs.Lemmas.WrittenEvidence.written_lines}
 
 kind_words : (k : Kind) → k ≢ Kind.Evidence → format_text (format_of k) ≡ kind_text k
 kind_words Kind.Evidence other = absurd (other refl)
@@ -11,9 +11,9 @@ kind_words _ other = refl
 entries_ended : (kind : Kind) (n : ℕ) (before ls : List Line) → kind ≢ Kind.Evidence → AreLines kind n before ls → flat_map entry_line (entries_of ls) ≡ flat_map (λ l. with_lf (line_text l)) ls
 entries_ended kind n before [] other are = refl
 entries_ended kind n before (Line.Entry e ∷ ls) other are = ap (λ l. entry_line e ++ l) (entries_ended kind n (before ++ Line.Entry e ∷ []) ls other are.1)
-entries_ended kind n before (Line.Named run name ∷ ls) other are = absurd (other are.0.evidence)
-entries_ended kind n before (Line.Remark run sentence ∷ ls) other are = absurd (other are.0.evidence)
-entries_ended kind n before (Line.Refused run sentence ∷ ls) other are = absurd (other are.0.evidence)
+entries_ended kind n before (Line.Named run name ∷ ls) other are = absurd (other are.0.0)
+entries_ended kind n before (Line.Remark run sentence ∷ ls) other are = absurd (other are.0.0)
+entries_ended kind n before (Line.Refused run sentence ∷ ls) other are = absurd (other are.0.0)
 
 text_is : (b : Block) → b.header.kind ≢ Kind.Evidence → AreLines b.header.kind b.header.behaviours [] b.lines → text_of_history (history_of b) ≡ text_of_block b
 text_is b other are =

@@ -165,8 +165,8 @@ line_no_end kind n before (Line.Entry e) v small fits = λ same.
     let low = fits.caller in
     no_letter e.caller.0 101 _ (codes "nd " ++ name_of v) (omega (arith, low)) (omega arith) (sym (entry_parts e) ∙ same)
 line_no_end kind n before (Line.Remark run sentence) v small fits = λ same.
-    let few = fits.few in
+    let few = fits.1 in
     no_letter run.0 101 (codes " # " ++ sentence) (codes "nd " ++ name_of v) (omega (arith, few, small)) (omega arith) same
 line_no_end kind n before (Line.Refused run sentence) v small fits = λ same.
-    let few = fits.few in
+    let few = fits.1 in
     no_letter run.0 101 (codes " ! " ++ sentence) (codes "nd " ++ name_of v) (omega (arith, few, small)) (omega arith) same

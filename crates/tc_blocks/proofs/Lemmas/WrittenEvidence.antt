@@ -1,7 +1,7 @@
 -- Blocks that are written are read again.
 use Rattle.std.{proofs.Common.{ℕ, ◌≡◌, ◌≢◌, ◌∙◌, List, [], ◌∷◌, ◌++◌, map, refl, ap, sym, append_assoc}, specs.List.{flat_map, AllByRecursion}}
 use Rattle.tc_text.{specs.Prelude.lines_of, proofs.Lemmas.LinesOf.{NoLf, ended_lines, lines-ended_lines}}
-use Rattle.tc_blocks.{specs.{Block.{header_text, with_lf}, HistoryBlock.end_text, Line.line_text, Text.{AreBlocks, AreEvidence, IsHeader, all_lines, block_lines}, Inside.text_of_block, declared.{block.Block.Block, line.Line.Line}}, proofs.Lemmas.Bytes.{AreAllPlain, blocks_plain, plain_no_lf}}
+use Rattle.tc_blocks.{specs.{Block.{header_text, with_lf}, HistoryBlock.end_text, Line.line_text, Text.{AreBlocks, AreEvidence, IsHeader, block_lines}, Inside.{all_lines, text_of_block}, declared.{block.Block.Block, line.Line.Line}}, proofs.Lemmas.Bytes.{AreAllPlain, blocks_plain, plain_no_lf}}
 
 all_no_lf : (ls : List (List ℕ)) → AllByRecursion AreAllPlain ls → AllByRecursion NoLf ls
 all_no_lf [] plain = tt

@@ -1,65 +1,71 @@
 -- Lines that are appended, some of which matter.
-use Rattle.std.proofs.{Common.{ℕ, ◌≡◌, inl, inr, List, [], ◌∷◌, ◌++◌, refl, subst}, lemmas.List.append-nil}
-use Rattle.tc_text.{specs.Said.{AreAmong, Line, TellsAmong, TellsLine}, proofs.Lemmas.Saying.{tells_after, tells_line, tells_none, tells_one, tells_some, tells_then}}
+use Rattle.std.{proofs.{Common.{ℕ, ◌≡◌, ◌∙◌, inl, inr, List, [], ◌∷◌, ◌++◌, ap, append_assoc, refl, subst, sym}, lemmas.List.{Concat.flat_map-append, append-nil}}, specs.List.flat_map}
+use Rattle.tc_text.{specs.Said.{AreAmong, Line, TellsAmong, TellsLine, shown_line}, proofs.Lemmas.Saying.holding}
 
-are_all : (lines : List Line) → AreAmong lines lines
-are_all [] = tt
-are_all (line ∷ lines) = inl (refl, are_all lines)
+behind : (lines : List Line) (front texts : List (List ℕ)) → AreAmong lines texts → AreAmong lines (front ++ texts)
+behind [] front texts h = tt
+behind (line ∷ lines) [] texts h = h
+behind (line ∷ lines) (first ∷ front) texts h = inr (behind (line ∷ lines) front texts h)
 
-behind : (lines front all : List Line) → AreAmong lines all → AreAmong lines (front ++ all)
-behind [] front all h = tt
-behind (line ∷ lines) [] all h = h
-behind (line ∷ lines) (first ∷ front) all h = inr (behind (line ∷ lines) front all h)
-
-both : (xs all ys more : List Line) → AreAmong xs all → AreAmong ys more → AreAmong (xs ++ ys) (all ++ more)
-both [] all ys more h k = behind ys all more k
-both (x ∷ xs) [] ys more h k = absurd h
-both (x ∷ xs) (a ∷ all) ys more (inl h) k = inl (h.0, both xs all ys more h.1 k)
-both (x ∷ xs) (a ∷ all) ys more (inr h) k = inr (both (x ∷ xs) all ys more h k)
+both : (xs ys : List Line) (texts more : List (List ℕ)) → AreAmong xs texts → AreAmong ys more → AreAmong (xs ++ ys) (texts ++ more)
+both [] ys texts more h k = behind ys texts more k
+both (x ∷ xs) ys [] more h k = absurd h
+both (x ∷ xs) ys (t ∷ texts) more (inl h) k = inl (h.0, both xs ys texts more h.1 k)
+both (x ∷ xs) ys (t ∷ texts) more (inr h) k = inr (both (x ∷ xs) ys texts more h k)
 
 -- nothing
 pub among_none : (a : List ℕ) → TellsAmong [] a a
 unfolding TellsAmong
-among_none a = ([], tt, tells_none a)
-
--- one line
-pub among_one : (words : Line) (a b : List ℕ) → TellsLine words a b → TellsAmong (words ∷ []) a b
-unfolding TellsAmong
-among_one words a b h = (words ∷ [], inl (refl, tt), tells_one words a b h)
+among_none a = ([], sym (append-nil a), tt)
 
 -- a line, and others after it
 pub among_line : (words : Line) (ys : List Line) (a b c : List ℕ) → TellsLine words a b → TellsAmong ys b c → TellsAmong (words ∷ ys) a c
-unfolding TellsAmong
-among_line words ys a b c h k = (words ∷ k.0, inl (refl, k.1), tells_line words k.0 a b c h k.2)
+unfolding TellsAmong TellsLine
+among_line words ys a b c h k =
+    let shown = flat_map shown_line k.0 in
+    (h.0 ∷ k.0, k.1 ∙ (ap (λ l. l ++ shown) h.1 ∙ append_assoc a (shown_line h.0) shown), inl (h.2, k.2))
+
+-- one line
+pub among_one : (words : Line) (a b : List ℕ) → TellsLine words a b → TellsAmong (words ∷ []) a b
+among_one words a b h = among_line words [] a b b h (among_none b)
 
 -- some, and others after them
 pub among_then : (xs ys : List Line) (a b c : List ℕ) → TellsAmong xs a b → TellsAmong ys b c → TellsAmong (xs ++ ys) a c
 unfolding TellsAmong
-among_then xs ys a b c h k = (h.0 ++ k.0, both xs h.0 ys k.0 h.1 k.1, tells_then h.0 k.0 a b c h.2 k.2)
-
--- a line that does not matter
-pub among_skipped : (words : Line) (a b : List ℕ) → TellsLine words a b → TellsAmong [] a b
-unfolding TellsAmong
-among_skipped words a b h = (words ∷ [], tt, tells_one words a b h)
+among_then xs ys a b c h k =
+    let first = flat_map shown_line h.0 in
+    let shown = flat_map shown_line k.0 in (
+      h.0 ++ k.0,
+      k.1 ∙ (ap (λ l. l ++ shown) h.1 ∙ (append_assoc a first shown ∙ ap (λ l. a ++ l) (sym (flat_map-append shown_line h.0 k.0)))),
+      both xs ys h.0 k.0 h.2 k.2,
+    )
 
 -- of what matters nothing
 pub among_any : (xs : List Line) (a b : List ℕ) → TellsAmong xs a b → TellsAmong [] a b
 unfolding TellsAmong
-among_any xs a b h = (h.0, tt, h.2)
+among_any xs a b h = (h.0, h.1, tt)
+
+-- a line that does not matter
+pub among_skipped : (words : Line) (a b : List ℕ) → TellsLine words a b → TellsAmong [] a b
+among_skipped words a b h = among_any (words ∷ []) a b (among_one words a b h)
 
 -- more that does not matter
 pub among_more : (xs : List Line) (a b c : List ℕ) → TellsAmong xs a b → TellsAmong [] b c → TellsAmong xs a c
-unfolding TellsAmong
-among_more xs a b c h k = (h.0 ++ k.0, subst (λ l. AreAmong l (h.0 ++ k.0)) (append-nil xs) (both xs h.0 [] k.0 h.1 k.1), tells_then h.0 k.0 a b c h.2 k.2)
+among_more xs a b c h k = subst (λ l. TellsAmong l a c) (append-nil xs) (among_then xs [] a b c h k)
 
 pub ruleset among_rules = (among_none, among_one, among_line, among_then, among_skipped, among_more)
 
 -- what is said, after something
 pub among_after : (lines : List Line) (front b c : List ℕ) → TellsAmong lines [] b → c ≡ front ++ b → TellsAmong lines front c
 unfolding TellsAmong
-among_after lines front b c h is = (h.0, h.1, tells_after h.0 front b c h.2 is)
+among_after lines front b c h is = (h.0, is ∙ ap (λ l. front ++ l) h.1, h.2)
+
+-- texts that hold these words
+held : (lines : List Line) → (texts : List (List ℕ)) × AreAmong lines texts
+held [] = ([], tt)
+held (words ∷ lines) = let text = holding words in let rest = held lines in (text.0 ∷ rest.0, inl (text.2, rest.1))
 
 -- something can be said
 pub among_some : (lines : List Line) (a : List ℕ) → (b : List ℕ) × TellsAmong lines a b
 unfolding TellsAmong
-among_some lines a = let some = tells_some lines a in (some.0, (lines, are_all lines, some.1))
+among_some lines a = let texts = held lines in (a ++ flat_map shown_line texts.0, (texts.0, refl, texts.1))

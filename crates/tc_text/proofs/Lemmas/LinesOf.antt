@@ -1,6 +1,6 @@
 -- Lines, and what follows them.
-use Rattle.std.{proofs.{Common.{◌≡◌, ◌≢◌, ◌∙◌, ◌==◌, inl, inr, ℕ, List, [], ◌∷◌, ◌++◌, Bool, true, false, if◌then◌else◌, length, ◌<◌, sym, ap, refl, arith, ◌^◌, codes, Some, None, rules, ◌+◌, ◌≤◌, IsTrue, All, take, get_or}, lemmas.Bool.Decides.nat_tests, lemmas.List.Elements.{All-head, All-tail}, lemmas.List.take_more}, specs.{List.{onto_first, AllByRecursion}, Fmt.decimal, Char.is_ascii_digit, Str.all_ascii_digits}}
-use Rattle.tc_text.{specs.{MoveList.{lines_of, IsMove, Move, behaviours_line, move_line}, Reading.{EndsLine, EndsMove, EndsNumber, EndsReply}, Spelling.{IsOp, move_text, IsGroup, IsTarget, args_text, group_text, op_text, target_text}, Inside.{AreComps, NoLow}}, proofs.{Operands.{IsThatNumber, ends_nothing}, Lemmas.Digits.{both, digit_first, spelled_digits}}}
+use Rattle.std.{proofs.{Common.{◌≡◌, ◌≢◌, ◌∙◌, ◌==◌, inl, inr, ℕ, List, [], ◌∷◌, ◌++◌, Bool, true, false, if◌then◌else◌, length, ◌<◌, sym, ap, refl, arith, ◌^◌, codes, Some, None, rules, ◌+◌, ◌≤◌, IsTrue, All, take, get_or}, lemmas.Bool.Decides.nat_tests, lemmas.List.Elements.{All-head, All-tail}, lemmas.List.{length-append, take_more}}, specs.{List.{onto_first, AllByRecursion}, Fmt.decimal, Char.is_ascii_digit, Str.all_ascii_digits}}
+use Rattle.tc_text.{specs.{MoveList.{lines_of, IsMove, Move}, Reading.{EndsLine, EndsMove, EndsNumber}, Spelling.{IsOp, move_text, IsGroup, IsTarget, args_text, group_text, op_text, target_text}, Inside.{AreComps, IsMoveTakenBy, NoLow, behaviours_line, move_line}}, proofs.{Operands.{IsThatNumber, ends_nothing}, Lemmas.Digits.{both, digit_first, spelled_digits}}}
 use Rattle.tc_entry.specs.{Prelude.{Run, IsBehaviours, name_of, given, UserVerdict, IsName, is_name_byte}, declared.op.Op.Op, declared.comp.Comp.Comp, declared.op.Group.Group, declared.op.Target.Target}
 
 -- no byte is LF
@@ -210,18 +210,10 @@ some_move run op low = λ e. let first = digit_first run (omega arith) in let is
 -- a byte of a name is a digit, a letter or an underscore
 pub ends_line : (rest behind : List ℕ) → EndsLine rest behind → EndsMove rest
 ends_line rest behind (inl last) = rw last.0 ends_nothing
-ends_line rest behind (inr more) = rw more (record {
-  number = λ b after e. let same : ◌≡◌ {A = ℕ} 10 b = first_is 10 b behind after e in omega (arith, same);
-  word = λ b after e. let same : ◌≡◌ {A = ℕ} 10 32 = first_is 10 32 behind (b ∷ after) e in absurd (omega (arith, same));
-})
-  where
-    first_is : (x y : ℕ) (xs ys : List ℕ) → x ∷ xs ≡ y ∷ ys → x ≡ y
-    first_is x y xs ys e = cc
-
--- and after a reply
-pub ends_reply : (rest behind : List ℕ) → EndsLine rest behind → EndsReply rest
-ends_reply rest behind (inl last) = rw last.0 (record { number = λ b after e. absurd cc; no_space = λ after e. cc })
-ends_reply rest behind (inr more) = record { number = (ends_line rest behind (inr more)).number; no_space = λ after e. let same : ◌≡◌ {A = ℕ} 10 32 = let whole = sym more ∙ e in cc in omega (arith, same) }
+ends_line rest behind (inr more) = rw more (
+  λ b after e. let same : ◌≡◌ {A = ℕ} 10 b = first_is 10 b behind after e in omega (arith, same),
+  λ b after e. let same : ◌≡◌ {A = ℕ} 10 32 = first_is 10 32 behind (b ∷ after) e in absurd (omega (arith, same)),
+)
 
 pub move_spelled : (text rest behind : List ℕ) (m : Move) → text ≡ move_text m.0.0 m.1 ++ rest → IsMove m → EndsLine rest behind → lines_of text ≡ move_line m ∷ lines_of behind
 move_spelled text rest behind m spelled fits ends = ap lines_of spelled ∙ line_ended (move_line m) rest behind (some_move m.0.0 m.1 fits.0) (move_plain m.0.0 m.1 fits.0 fits.1) ends
@@ -243,23 +235,38 @@ pub record IsThat {A : Type 0} (one that : A) (rest : List ℕ) (others : List (
 ends_at : (x y behind : List ℕ) → x ≡ y → EndsLine y behind → EndsLine x behind
 ends_at x y behind e ends = rw e ends
 
-pub that_line : (text rest : List ℕ) (one : Move) → ((run : ℕ) (op : Op) (after : List ℕ) → run < 2 ^ 16 → IsOp op → EndsMove after → text ≡ move_text run op ++ after → (one ≡ (record { 0 = run }, op)) × (rest ≡ after))
-    → (m : Move) (others : List (List ℕ)) → IsMove m → lines_of text ≡ move_line m ∷ others → IsThat one m rest others
+-- what reading a move shows: it is that of each spelling that the text begins with
+abbrev pub IsThatSpelled : List ℕ → Move → List ℕ → Type 0
+IsThatSpelled text one rest = (run : ℕ) (op : Op) (after : List ℕ) → run < 2 ^ 16 → IsOp op → EndsMove after → text ≡ move_text run op ++ after → (one.0.0 ≡ run) × (one.1 ≡ op) × (rest ≡ after)
+
+pub that_line : (text rest : List ℕ) (one : Move) → IsThatSpelled text one rest → (m : Move) (others : List (List ℕ)) → IsMove m → lines_of text ≡ move_line m ∷ others → IsThat one m rest others
 that_line text rest one only m others fits lines =
     let begins = first_line text (move_line m) others lines in
-    let two = only m.0.0 m.1 begins.rest fits.0 fits.1 (ends_line begins.rest begins.behind begins.ends) begins.parts in
-    record { same = two.0; behind = begins.behind; ends = ends_at rest begins.rest begins.behind two.1 begins.ends; lines = begins.lines }
-
--- the same of a move whose caller and operation are read
-pub that_short_line : (text rest : List ℕ) (caller : Run) (op : Op) → ((run : ℕ) (o : Op) (after : List ℕ) → run < 2 ^ 16 → IsOp o → EndsMove after → text ≡ move_text run o ++ after → (caller.0 ≡ run) × (op ≡ o) × (rest ≡ after))
-    → (m : Move) (others : List (List ℕ)) → IsMove m → lines_of text ≡ move_line m ∷ others → IsThat {A = Move} (caller, op) m rest others
-that_short_line text rest caller op only = that_line text rest (caller, op) (λ run o after few is ends parts. let three = only run o after few is ends parts in (same_move caller run op o three.0 three.1, three.2))
+    let three = only m.0.0 m.1 begins.rest fits.0 fits.1 (ends_line begins.rest begins.behind begins.ends) begins.parts in
+    record { same = same_move one.0 m.0.0 one.1 m.1 three.0 three.1; behind = begins.behind; ends = ends_at rest begins.rest begins.behind three.2 begins.ends; lines = begins.lines }
   where
     move : ℕ → Op → Move
     move k o = (record { 0 = k }, o)
 
     same_move : (r : Run) (n : ℕ) (x y : Op) → r.0 ≡ n → x ≡ y → ◌≡◌ {A = Move} (r, x) (record { 0 = n }, y)
     same_move r n x y number same = ap (λ (k : ℕ). move k x) number ∙ ap (λ (o : Op). move n o) same
+
+shorter : (text front rest behind : List ℕ) → front ≢ [] → text ≡ front ++ rest → EndsLine rest behind → length behind < length text
+shorter text [] rest behind some is ends = absurd (some refl)
+shorter text (b ∷ bs) rest behind some is (inl last) = let all = ap length is in let none = ap length last.1 in omega (arith, all, none, length-append bs rest)
+shorter text (b ∷ bs) rest behind some is (inr more) = let all = ap length is in let rests = ap length more in omega (arith, all, rests, length-append bs rest)
+
+-- the move that the first line spells is taken
+pub line_taken : {T : Type 0} (stands : ℕ → List Move → T → Type 0) (text rest behind : List ℕ) (m : Move) (value value' : T) → text ≡ move_text m.0.0 m.1 ++ rest → IsMove m → IsThatSpelled text m rest → EndsLine rest behind
+    → ((n : ℕ) (moves : List Move) → stands n moves value → stands n (moves ++ m ∷ []) value') → IsMoveTakenBy stands text value value' behind
+line_taken stands text rest behind m value value' spelled fits only ends taken = record {
+  move = m;
+  spelled = move_spelled text rest behind m spelled fits ends;
+  fits = fits;
+  less = shorter text (move_text m.0.0 m.1) rest behind (some_move m.0.0 m.1 fits.0) spelled ends;
+  only = λ n others right lines. let that = that_line text rest m only n others right lines in (that.same, ap lines_of (same_behind rest behind that.behind ends that.ends) ∙ that.lines);
+  taken = taken;
+}
 
 -- ---- the first line of a list
 
@@ -282,11 +289,11 @@ pub no_behaviours : (text behind : List ℕ) → text ≡ codes "behaviours " ++
 no_behaviours text behind word never n others few lines =
     let begins = first_line text (behaviours_line n) others lines in
     let low = few.1 in
-    never n begins.rest (omega (arith, low)) (ends_line begins.rest begins.behind begins.ends).number (behind_word behind _ (sym word ∙ begins.parts ∙ behaviours_assoc n begins.rest))
+    never n begins.rest (omega (arith, low)) (ends_line begins.rest begins.behind begins.ends).0 (behind_word behind _ (sym word ∙ begins.parts ∙ behaviours_assoc n begins.rest))
 
 pub that_first : (text behind rest : List ℕ) (number : ℕ) → text ≡ codes "behaviours " ++ behind → IsThatNumber behind number rest → (n : ℕ) (others : List (List ℕ)) → IsBehaviours n → lines_of text ≡ behaviours_line n ∷ others → IsThat number n rest others
 that_first text behind rest number word only n others few lines =
     let begins = first_line text (behaviours_line n) others lines in
     let low = few.1 in
-    let two = only n begins.rest (omega (arith, low)) (ends_line begins.rest begins.behind begins.ends).number (behind_word behind _ (sym word ∙ begins.parts ∙ behaviours_assoc n begins.rest)) in
+    let two = only n begins.rest (omega (arith, low)) (ends_line begins.rest begins.behind begins.ends).0 (behind_word behind _ (sym word ∙ begins.parts ∙ behaviours_assoc n begins.rest)) in
     record { same = two.0; behind = begins.behind; ends = ends_at rest begins.rest begins.behind two.1 begins.ends; lines = begins.lines }

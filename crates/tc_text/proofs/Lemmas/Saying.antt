@@ -1,6 +1,6 @@
--- Lines that are said, one after another, and what the parts of a line hold.
-use Rattle.std.{proofs.{Common.{ℕ, ◌≡◌, ◌∙◌, Bool, true, false, if◌then◌else◌, List, [], ◌∷◌, ◌++◌, map, Result, Ok, Err, OnOk, refl, sym, ap, subst, append_assoc}, lemmas.List.append-nil}, specs.{Fmt.decimal, List.flat_map}}
-use Rattle.tc_text.specs.{Inside.{part_text, prose_text, as_printable}, Said.{Holds, Line, Tells, TellsLine, ends_word, part_words, shown_line}, declared.said.Part.Part}
+-- What the parts of a line hold.
+use Rattle.std.{proofs.{Common.{ℕ, ◌≡◌, ◌∙◌, Bool, true, false, if◌then◌else◌, List, [], ◌∷◌, ◌++◌, Result, Ok, Err, OnOk, refl, sym, ap, subst, append_assoc}, lemmas.List.append-nil}, specs.{Fmt.decimal, List.flat_map}}
+use Rattle.tc_text.specs.{Inside.{part_text, prose_text}, Said.{Holds, Line, TellsLine, ends_word, part_words, shown_line}, declared.said.Part.Part}
 
 -- ---- what the parts of a line hold
 
@@ -63,57 +63,7 @@ pub on_ok : {A E P Q : Type 0} (r : Result A E) → (P → Q) → OnOk r P → O
 on_ok (Ok v) so is = so is
 on_ok (Err e) so is = tt
 
--- ---- lines, one after another
-
--- nothing
-pub tells_none : (a : List ℕ) → Tells [] a a
-unfolding Tells
-tells_none a = refl
-
--- one line
-pub tells_one : (words : Line) (a b : List ℕ) → TellsLine words a b → Tells (words ∷ []) a b
-unfolding Tells
-tells_one words a b h = (b, h, refl)
-
--- some, and others after them
-pub tells_then : (xs ys : List Line) (a b c : List ℕ) → Tells xs a b → Tells ys b c → Tells (xs ++ ys) a c
-unfolding Tells
-tells_then [] ys a b c h k = subst (λ x. Tells ys x c) h k
-tells_then (x ∷ xs) ys a b c h k = (h.0, h.1, tells_then xs ys h.0 b c h.2 k)
-
--- a line, and others after it
-pub tells_line : (words : Line) (ys : List Line) (a b c : List ℕ) → TellsLine words a b → Tells ys b c → Tells (words ∷ ys) a c
-unfolding Tells
-tells_line words ys a b c h k = (b, h, k)
-
--- ---- after something
-
-line_behind : (words : Line) (front a b : List ℕ) → TellsLine words a b → TellsLine words (front ++ a) (front ++ b)
-unfolding TellsLine
-line_behind words front a b h = (h.0, ap (λ l. front ++ l) h.1 ∙ sym (append_assoc front a (32 ∷ (map as_printable h.0 ++ 10 ∷ []))), h.2)
-
-tells_behind : (lines : List Line) (front a b : List ℕ) → Tells lines a b → Tells lines (front ++ a) (front ++ b)
-unfolding Tells
-tells_behind [] front a b h = ap (λ l. front ++ l) h
-tells_behind (words ∷ lines) front a b h = (front ++ h.0, line_behind words front a h.0 h.1, tells_behind lines front h.0 b h.2)
-
--- what is said, after something
-pub tells_after : (lines : List Line) (front b c : List ℕ) → Tells lines [] b → c ≡ front ++ b → Tells lines front c
-tells_after lines front b c h is =
-    subst (λ l. Tells lines l c) (append-nil front) (subst (λ l. Tells lines (front ++ []) l) (sym is) (tells_behind lines front [] b h))
-
--- ---- something can be said
-
 -- a text that holds words
-holding : (words : Line) → (text : List ℕ) × (ends_word text ≡ true) × Holds words text
+pub holding : (words : Line) → (text : List ℕ) × (ends_word text ≡ true) × Holds words text
 holding [] = ([], refl, tt)
 holding (w ∷ ws) = let rest = holding ws in (32 ∷ (w ++ rest.0), refl, ([], rest.0, refl, rest.1, rest.2))
-
-pub tells_some : (lines : List Line) (a : List ℕ) → (b : List ℕ) × Tells lines a b
-unfolding Tells TellsLine
-tells_some [] a = (a, refl)
-tells_some (words ∷ lines) a =
-    let text = holding words in
-    let middle = a ++ (32 ∷ (map as_printable text.0 ++ 10 ∷ [])) in
-    let rest = tells_some lines middle in
-    (rest.0, (middle, (text.0, refl, text.2), rest.1))

@@ -21,7 +21,7 @@ returns-in-None-clause-only c h others header lines =
     let behind_name = 32 ∷ (decimal h.behaviours ++ begins.rest) in
     let first = c.in_ok-kind.ensures.only h.kind (h.name ++ behind_name) begins.parts in
     let named = c.in_ok-name.ensures.only h.name behind_name header.name_is (space_ends (decimal h.behaviours ++ begins.rest)) first.1 in
-    absurd (c.in-None.ensures.only h.behaviours begins.rest begins.behind header.few (rw (c.format.ensures, first.0) header.kind_fits) begins.ends named.1)
+    absurd (c.in-None.ensures.only h.behaviours begins.rest begins.behind header.few (rw first.0 header.kind_fits) begins.ends named.1)
 
 pub returns-in-Some-clause-spelled : goal.returns-in-Some-clause-spelled
 returns-in-Some-clause-spelled c =
@@ -29,7 +29,7 @@ returns-in-Some-clause-spelled c =
     header_spelled c.args.text.now c.in_ok-kind.rest.now c.in_ok-name.rest.now (decimal c.in-Some.behaviours ++ last.spelled.0) last.spelled.0 c.in-Some.rest.now
     (record { kind = c.in_ok-kind.kind; name = c.in_ok-name.name; behaviours = c.in-Some.behaviours })
     c.in_ok-kind.ensures.spelled c.in_ok-name.ensures.spelled last.spelled.1 refl last.spelled.2
-    (record { name_is = c.in_ok-name.ensures.fits; few = last.fits.0; kind_fits = rw c.format.ensures at last.fits.1 })
+    (record { name_is = c.in_ok-name.ensures.fits; few = last.fits.0; kind_fits = last.fits.1 })
 
 pub returns-in-Some-clause-only : goal.returns-in-Some-clause-only
 returns-in-Some-clause-only c h others header lines =
@@ -37,8 +37,8 @@ returns-in-Some-clause-only c h others header lines =
     let behind_name = 32 ∷ (decimal h.behaviours ++ begins.rest) in
     let first = c.in_ok-kind.ensures.only h.kind (h.name ++ behind_name) begins.parts in
     let named = c.in_ok-name.ensures.only h.name behind_name header.name_is (space_ends (decimal h.behaviours ++ begins.rest)) first.1 in
-    let last = c.in-Some.ensures.only h.behaviours begins.rest begins.behind header.few (rw (c.format.ensures, first.0) header.kind_fits) begins.ends named.1 in
+    let last = c.in-Some.ensures.only h.behaviours begins.rest begins.behind header.few (rw first.0 header.kind_fits) begins.ends named.1 in
     (same_header c.in_ok-kind.kind c.in_ok-name.name c.in-Some.behaviours h first.0 named.0 last.0, ap lines_of last.1 ∙ begins.lines)
 
 pub returns-in-Some-clause-fits : goal.returns-in-Some-clause-fits
-returns-in-Some-clause-fits c = record { name_is = c.in_ok-name.ensures.fits; few = c.in-Some.ensures.fits.0; kind_fits = rw c.format.ensures at c.in-Some.ensures.fits.1 }
+returns-in-Some-clause-fits c = record { name_is = c.in_ok-name.ensures.fits; few = c.in-Some.ensures.fits.0; kind_fits = c.in-Some.ensures.fits.1 }

@@ -1,5 +1,5 @@
 use Rattle.std.{proofs.Common.{rules, refl, ◌++◌, take}, specs.{Io.StartsWith, List.flat_map}}
-use Rattle.tc_blocks.{specs.HistoryBlock.entry_line, proofs.Unfinished.starts_before}
+use Rattle.tc_blocks.{specs.Inside.entry_line, proofs.Unfinished.starts_before}
 use Rattle.tc_blocks.proofs.history_block.append_entries.Goals as goal
 
 pub returns-in_err-append_entry-clause-err : goal.returns-in_err-append_entry-clause-err

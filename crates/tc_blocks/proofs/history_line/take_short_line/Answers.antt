@@ -1,6 +1,6 @@
 use Rattle.std.proofs.Common.{◌∙◌, ap}
 use Rattle.tc_text.specs.Prelude.{lines_of, op_of}
-use Rattle.tc_blocks.{specs.HistoryText.short_entry, proofs.InnerLines.{begins_with_move, entry_and_outcome, same_parts, short_unnamed}}
+use Rattle.tc_blocks.{specs.Inside.short_entry, proofs.InnerLines.{begins_with_move, entry_and_outcome, no_name, same_parts, short_unnamed}}
 use Rattle.tc_blocks.proofs.history_line.take_short_line.Goals as goal
 
 pub returns-in_default-clause-only : goal.returns-in_default-clause-only
@@ -19,12 +19,12 @@ returns-clause-spelled g c =
     let moved = c.in-Some.ensures in
     let replied = c.in_ok-reply.ensures in
     entry_and_outcome c.args.text.now c.in-Some.rest.now c.in_ok-reply.rest.now 2 (short_entry c.in-Some.caller c.in-Some.op c.in_ok-reply.reply) moved.spelled replied.spelled
-    (record { caller = moved.fits.0; op = moved.fits.1; reply = replied.fits; names = λ one. short_unnamed c.in-Some.op })
+    (record { caller = moved.fits.0; op = moved.fits.1; reply = replied.fits; names = λ one. no_name (op_of c.in-Some.op) (short_unnamed c.in-Some.op) })
 
 pub returns-clause-fits : goal.returns-clause-fits
 returns-clause-fits g c format =
     let moved = c.in-Some.ensures in
-    record { caller = moved.fits.0; op = moved.fits.1; reply = c.in_ok-reply.ensures.fits; names = λ one. short_unnamed c.in-Some.op }
+    record { caller = moved.fits.0; op = moved.fits.1; reply = c.in_ok-reply.ensures.fits; names = λ one. no_name (op_of c.in-Some.op) (short_unnamed c.in-Some.op) }
 
 pub returns-clause-only : goal.returns-clause-only
 returns-clause-only g c format e others fits lines =

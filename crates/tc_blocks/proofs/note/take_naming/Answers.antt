@@ -27,7 +27,7 @@ returns-in_err-name-clause-only c k name others few is lines =
     let word = behind_word c.in_ok-rest.rest.now (decimal k ++ (32 ∷ (name ++ begins.rest))) (sym c.in_ok-rest.ensures ∙ begins.parts) in
     let ran = c.in_ok-run.ensures.only k (32 ∷ (name ++ begins.rest)) few (space_ends (name ++ begins.rest)) word in
     let space = behind_space c.in_ok-rest-2.rest.now (name ++ begins.rest) (sym c.in_ok-rest-2.ensures ∙ ran.1) in
-    absurd (c.in_err-name.ensures.only name begins.rest is (ends_line begins.rest begins.behind begins.ends).number space)
+    absurd (c.in_err-name.ensures.only name begins.rest is (ends_line begins.rest begins.behind begins.ends).0 space)
 
 pub returns-in_err-rest-3-clause-only : goal.returns-in_err-rest-3-clause-only
 returns-in_err-rest-3-clause-only c k name others few is lines =
@@ -35,7 +35,7 @@ returns-in_err-rest-3-clause-only c k name others few is lines =
     let word = behind_word c.in_ok-rest.rest.now (decimal k ++ (32 ∷ (name ++ begins.rest))) (sym c.in_ok-rest.ensures ∙ begins.parts) in
     let ran = c.in_ok-run.ensures.only k (32 ∷ (name ++ begins.rest)) few (space_ends (name ++ begins.rest)) word in
     let space = behind_space c.in_ok-rest-2.rest.now (name ++ begins.rest) (sym c.in_ok-rest-2.ensures ∙ ran.1) in
-    let named = c.in_ok-name.ensures.only name begins.rest is (ends_line begins.rest begins.behind begins.ends).number space in
+    let named = c.in_ok-name.ensures.only name begins.rest is (ends_line begins.rest begins.behind begins.ends).0 space in
     absurd (c.in_err-rest-3.ensures begins.behind (ends_at c.in_ok-name.rest.now begins.rest begins.behind named.1 begins.ends))
 
 pub returns-clause-spelled : goal.returns-clause-spelled
@@ -50,7 +50,7 @@ returns-clause-only c k name others few is lines =
     let word = behind_word c.in_ok-rest.rest.now (decimal k ++ (32 ∷ (name ++ begins.rest))) (sym c.in_ok-rest.ensures ∙ begins.parts) in
     let ran = c.in_ok-run.ensures.only k (32 ∷ (name ++ begins.rest)) few (space_ends (name ++ begins.rest)) word in
     let space = behind_space c.in_ok-rest-2.rest.now (name ++ begins.rest) (sym c.in_ok-rest-2.ensures ∙ ran.1) in
-    let named = c.in_ok-name.ensures.only name begins.rest is (ends_line begins.rest begins.behind begins.ends).number space in (
+    let named = c.in_ok-name.ensures.only name begins.rest is (ends_line begins.rest begins.behind begins.ends).0 space in (
       same_naming c.in_ok-run.run' c.in_ok-name.name k name ran.0 named.0,
       same_lines c.in_ok-name.rest.now begins.rest c.in_ok-rest-3.rest.now begins.behind others named.1 c.in_ok-rest-3.ensures begins.ends begins.lines,
     )

@@ -1,6 +1,9 @@
 use Rattle.std.proofs.Common.{arith, refl}
-use Rattle.tc_blocks.{specs.{HistoryText.short_entry, Text.format_of, declared.line.Line.Line}, proofs.NextLines.entry_next}
+use Rattle.tc_blocks.{specs.{Inside.short_entry, Text.format_of, declared.line.Line.Line}, proofs.NextLines.entry_next}
 use Rattle.tc_blocks.proofs.read.take_line.Goals as goal
+
+pub take_any_line-requires : goal.take_any_line-requires
+take_any_line-requires g c = c.in_default.ensures.only (format_of c.args.block.now.kind)
 
 pub returns : goal.returns
 returns g c =

@@ -1,6 +1,11 @@
 use Rattle.std.proofs.{Common.{◌≡◌, ◌<◌, length, arith}, lemmas.Grind.common_steps, lemmas.List.nil_from_length}
-use Rattle.tc_text.proofs.{Lemmas.LinesOf.not_empty, SoFar.bad_first, SoFar.made_all, SoFar.made_bad, SoFar.made_more, SoFar.made_none, SoFar.made_only, SoFar.no_list}
+use Rattle.tc_text.proofs.{Lemmas.LinesOf.not_empty, SoFar.bad_first, SoFar.made_all, SoFar.made_bad, SoFar.made_more, SoFar.made_none, SoFar.made_only, SoFar.no_lines, SoFar.no_list}
 use Rattle.tc_text.proofs.move_list.read_moves_into.Goals as goal
+
+pub returns-then-is_empty-clause-fault : goal.returns-then-is_empty-clause-fault
+returns-then-is_empty-clause-fault g c =
+    let none : length c.args.text.now ≡ 0 = grind (arith, common_steps) in
+    rw c.at.ensures (no_lines c.args.text.now (nil_from_length c.args.text.now none))
 
 pub returns-in_default-clause-fault : goal.returns-in_default-clause-fault
 returns-in_default-clause-fault g c =

@@ -1,4 +1,4 @@
-use Rattle.std.proofs.Common.{◌≡◌, ◌≢◌, ℕ, List, ◌++◌, codes}
+use Rattle.std.proofs.Common.{◌≡◌, ◌≢◌, ◌∙◌, sym, ℕ, List, ◌++◌, codes}
 use Rattle.tc_entry.specs.{declared.reply.Fault.Fault, Prelude.fault_name}
 use Rattle.tc_text.proofs.reply.take_fault.Goals as goal
 
@@ -24,5 +24,6 @@ no_fault Fault.Stuck text rest a b c d g h i j e = j rest e
 
 pub returns-in_default-after-7-clause-only : goal.returns-in_default-after-7-clause-only
 returns-in_default-after-7-clause-only c f rest e =
-    no_fault f c.args.text.now rest c.in_default.ensures c.in_default-after.ensures c.in_default-after-2.ensures c.in_default-after-3.ensures
-    c.in_default-after-4.ensures c.in_default-after-5.ensures c.in_default-after-6.ensures c.in_default-after-7.ensures e
+    let whole : c.in_ok-text.text.now ≡ fault_name f ++ rest = (let both = sym c.in_ok-text.ensures ∙ e in cc) in
+    no_fault f c.in_ok-text.text.now rest c.in_default.ensures c.in_default-after.ensures c.in_default-after-2.ensures c.in_default-after-3.ensures
+    c.in_default-after-4.ensures c.in_default-after-5.ensures c.in_default-after-6.ensures c.in_default-after-7.ensures whole
