@@ -1,5 +1,5 @@
 -- The lines of entries and the last line of a block.
-use Rattle.std.proofs.Common.{Bool, ℕ, ◌≡◌, ◌↔◌, ◌∙◌, List, [], ◌∷◌, ◌++◌, codes, ap, sym, refl, append_assoc, arith, rules, subst, reverse}
+use Rattle.std.proofs.Common.{Bool, Some, None, ◌≢◌, ℕ, ◌≡◌, ◌↔◌, ◌∙◌, List, [], ◌∷◌, ◌++◌, codes, ap, sym, refl, append_assoc, arith, rules, subst, reverse}
 use Rattle.tc_rules.specs.Prelude.{Run, Verdict, name_of, Entry, Op, Fault, Reply, fault_name, overall, IsLegal}
 use Rattle.tc_text.{specs.{declared.short.ShortOp.ShortOp, Prelude.{lines_of, EndsMove, EndsLine, op_of, move_text, reply_text, IsReply}}, proofs.Lemmas.LinesOf.{NoLf, line_ended, no_lf-append, same_behind, move_plain, number_plain, some_move}}
 use Rattle.tc_blocks.{specs.{HistoryBlock.{end_text, entry_text}, Inside.{IsUnnamed, outcome_text}, HistoryText.IsEntry, Laws.{LinesAreLegal, overall_of}, Line.{entries_of, entry_in}, declared.line.Line.Line}, proofs.Lemmas.{Bytes.{BeginsWith, begins_with}, Notes.first_is}}
@@ -129,9 +129,9 @@ pub no_name : (op : Op) → IsUnnamed op → (alive : Bool) (name : List ℕ) �
 no_name op is alive name e = subst (λ (o : Op). IsUnnamed o) e is
 
 pub unnamed : (op : Op) → ((alive : Bool) (name : List ℕ) → op ≢ Op.Create alive (Some name)) → IsUnnamed op
-unnamed (Op.Create alive (Some name)) no = no alive name refl
-unnamed (Op.Create alive None) no = tt
-unnamed _ no = tt
+unnamed (Op.Create alive (Some name)) never = never alive name refl
+unnamed (Op.Create alive None) never = tt
+unnamed _ never = tt
 
 pub same_entries : (before after : List Line) (l : Line) → entry_in l ≡ [] → entries_of (before ++ l ∷ after) ≡ entries_of (before ++ after)
 same_entries [] after l none = ap (λ x. x ++ entries_of after) none
