@@ -6,7 +6,7 @@ ghost use Rattle.tc_text.specs.Prelude.{TellsAmong};
 ghost use Rattle.tc_blocks.specs.Prelude.{AreEvidence};
 ghost use Rattle.tc_blocks.specs.declared.block.Block.{Block as AnyBlock};
 
-use std::alloc::Global;
+use std::alloc::{AllocError, Global};
 use tc_answer::{RunFault, read_script};
 use tc_blocks::{Block, read_evidence};
 use tc_entry::{Name, NoMemory, Pattern};
@@ -36,7 +36,7 @@ pub(crate) fn names_of_script(alloc: Global, script: &[u8]) -> Result<Vec<Name>,
     let mut names = Vec::new(alloc);
     while let Some((name, case)) = campaign.take_first() {
         drop(case);
-        names.push(name)?;
+        names.push(name).map_err(AllocError::from)?;
     }
     Ok(names)
 }
