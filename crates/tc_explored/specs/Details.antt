@@ -4,7 +4,7 @@ use Rattle.tc_step.specs.{declared.{place.{Place.Place, TargetPlace.TargetPlace}
 use Rattle.tc_course.specs.{declared.{found.Explored.Explored, witness.Witness.Witness}, Prelude.steps_of}
 use Rattle.tc_rules.specs.Prelude.{name_of, Entry, components, local_if_any}
 use Rattle.tc_text.specs.Prelude.{shown_line}
-use Rattle.tc_report.specs.{Prelude.{cause_of, component_in, decided_text, names_in, namings_of, waits_text}, declared.{naming.Names.Names, results.CaseEnd.CaseEnd}}
+use Rattle.tc_report.specs.{Prelude.{cause_of, component_in, decided_text, names_in, namings_of, waits_text}, declared.{cause.Cause.Cause, naming.Names.Names, results.CaseEnd.CaseEnd}}
 use Rattle.tc_explored.specs.{Line.if_complete, Race.races, Steps.step_text}
 
 -- component c of a test case with these names, and its local verdict at the end of a history
@@ -17,16 +17,13 @@ local_words names history c =
 unfoldable pub locals : Names → Witness → List ℕ
 locals names w = shown_line (32 ∷ (name_of w.verdict ++ flat_map (local_words names w.history) (range_with_len 0 (components (reverse w.history)))))
 
--- the verdict of a witness, and what decided it, if it is worse than pass
-unfoldable pub decided : Names → Witness → List ℕ
-decided names w =
-    option_map_or (λ c. shown_line ((32 ∷ (name_of w.verdict ++ codes ": ")) ++ decided_text names c)) (cause_of (CaseEnd.Over w.verdict) [] w.history) []
-
--- the local verdicts of a witness of n behaviours with these names, what decided its verdict, and who waits for whom at its end
-abbrev pub witness_text : List (List ℕ) → ℕ → Witness → List ℕ
+-- the local verdicts of a witness of n behaviours with these names, what decided its verdict if it is worse than pass, and who
+-- waits for whom at its end
+unfoldable pub witness_text : List (List ℕ) → ℕ → Witness → List ℕ
 witness_text names n w =
     let named = names_in w.history (namings_of names) in
-    locals named w ++ (decided named w ++ waits_text named n w.history)
+    let decided = λ (c : Cause). shown_line ((32 ∷ (name_of w.verdict ++ codes ": ")) ++ decided_text named c) in
+    locals named w ++ (option_map_or decided (cause_of (CaseEnd.Over w.verdict) [] w.history) [] ++ waits_text named n w.history)
 
 -- the step waits for the component that it is on
 abbrev pub waits_for_own : Option Step → Bool

@@ -3,7 +3,7 @@ use Rattle.std.specs.{Prelude.{ℕ, ◌==◌, if◌then◌else◌, nat_lt, Bool,
 use Rattle.tc_rules.specs.Prelude.{Verdict, name_of}
 use Rattle.tc_blocks.specs.declared.header.Header.{Header}
 use Rattle.tc_report.specs.Prelude.{component_text, named_block}
-use Rattle.tc_course.specs.{Prelude.{is_found, is_local}, declared.{found.{Ending.Ending, Explored.Explored, Limit.Limit, Locals.Locals}, witness.Witness.Witness}}
+use Rattle.tc_course.specs.{Prelude.{is_found, is_local}, declared.found.{Ending.Ending, Explored.Explored, Limit.Limit, Locals.Locals}}
 use Rattle.tc_text.specs.Prelude.{shown_line}
 
 -- the verdicts of which this holds, from the best to the worst
@@ -15,15 +15,12 @@ abbrev pub if_complete : {A : Type 0} → Ending → A → A → A
 if_complete Ending.Complete first other = first
 if_complete (Ending.Undecided limit) first other = other
 
--- the status of a test case of which these were found: 0 for one verdict, or 2 if it is error; 1 for more; 3 for none
-abbrev pub found_status : List Witness → ℕ
-found_status found =
-    let count = length (verdicts_where (is_found found)) in
-    if count == 1 then (if is_found found Verdict.Error then 2 else 0) else if nat_lt 1 count then 1 else 3
-
--- the same of all that a search found; 3 if it met its limit
+-- the status of a test case: 0 for one verdict that was found, or 2 if it is error; 1 for more; 3 for none, and if the search met
+-- its limit
 abbrev pub explored_status : Explored → ℕ
-explored_status e = if_complete e.ending (found_status e.found) 3
+explored_status e =
+    let count = length (verdicts_where (is_found e.found)) in
+    if_complete e.ending (if count == 1 then (if is_found e.found Verdict.Error then 2 else 0) else if nat_lt 1 count then 1 else 3) 3
 
 -- how the search ended, and, if something may be missed, after how many states and at which limit
 abbrev pub ending_words : Ending → ℕ → List ℕ

@@ -1,19 +1,15 @@
 -- Two witnesses from where they part: side by side, or run by run.
 use Rattle.std.specs.{Prelude.{ℕ, ◌+◌, ◌==◌, ◌&&◌, ◌||◌, nat_lt, not, max, if◌then◌else◌, Bool, false, Option, Some, None, List, [], ◌∷◌, ◌++◌, bytes_eq, codes, drop, filter, length, reverse, slice_get}, Fmt.decimal, List.{common_prefix_len, flat_map, range_with_len}, Option.{option_map_or, option_or}}
-use Rattle.tc_rules.specs.Prelude.{Comp, Entry, comp_of, halts, is_by, is_ended, is_parked, name_of}
+use Rattle.tc_rules.specs.Prelude.{Entry, comp_of, halts, is_by, is_ended, is_parked, name_of}
 use Rattle.tc_blocks.specs.Prelude.{entry_text}
 use Rattle.tc_report.specs.{Prelude.{named_call, names_in, namings_of, no_names, run_in}, declared.naming.Names.Names}
 use Rattle.tc_course.specs.declared.witness.Witness.{Witness}
 use Rattle.tc_text.specs.Prelude.{shown_line}
 use Rattle.tc_explored.specs.declared.parting.Difference.{Difference}
 
--- a call and its reply, by numbers only; a Wake is shown as its Wait
-abbrev pub plain_call : Entry → List ℕ
-plain_call e = named_call no_names e.op e.reply
-
--- two entries are of the same run, with the same call and reply
+-- two entries are of the same run, with the same call and reply, by numbers only; a Wake is as its Wait
 abbrev pub is_alike : Entry → Entry → Bool
-is_alike x y = (x.caller.0 == y.caller.0) && bytes_eq (plain_call x) (plain_call y)
+is_alike x y = (x.caller.0 == y.caller.0) && bytes_eq (named_call no_names x.op x.reply) (named_call no_names y.op y.reply)
 
 -- a line of two columns, of which the left one has 36 letters or more
 abbrev pub row : List ℕ → List ℕ → List ℕ
@@ -27,18 +23,15 @@ text_at history at = option_map_or entry_text (slice_get history at) []
 abbrev pub rows : List Entry → List Entry → List ℕ
 rows left right = flat_map (λ at. row (text_at left at) (text_at right at)) (range_with_len 0 (max (length left) (length right)))
 
+-- the entry that ended run b: the first after the run was started that halts its component, and is no end of another run's
+-- behaviour
+abbrev pub run_ended_by : List Entry → ℕ → Option Entry
+run_ended_by [] b = None
+run_ended_by (e ∷ past) b = option_or (run_ended_by past b) (if option_map_or (λ c. halts (if is_by b e then Some c else None) e c.0) (comp_of past b) false then Some e else None)
+
 -- the calls of run b, without those that were parked
 abbrev pub calls : List Entry → ℕ → List Entry
 calls history b = filter (λ e. is_by b e && not (is_parked e.reply)) history
-
--- the entry ends run b on this component, if it is on one: it halts the component, and is no end of another run's behaviour
-abbrev pub ends_run : ℕ → Option Comp → Entry → Bool
-ends_run b on e = option_map_or (λ c. halts (if is_by b e then Some c else None) e c.0) on false
-
--- the entry that ended run b: the first that does so after the run was started
-abbrev pub run_ended_by : List Entry → ℕ → Option Entry
-run_ended_by [] b = None
-run_ended_by (e ∷ past) b = option_or (run_ended_by past b) (if ends_run b (comp_of past b) e then Some e else None)
 
 -- the first calls of run b that differ in two histories, if some do
 abbrev pub difference : List Entry → List Entry → ℕ → Option Difference
@@ -54,13 +47,9 @@ difference left right b =
 abbrev pub side_text : Names → Option Entry → List ℕ
 side_text names call = option_map_or (λ e. named_call names e.op e.reply) call (codes "not made")
 
--- the entry that ended run b in this history, if the call is replied so
-abbrev pub end_before : List Entry → ℕ → Option Entry → Option Entry
-end_before history b call = if option_map_or (λ e. is_ended e.reply) call false then run_ended_by (reverse history) b else None
-
--- what ended a run, after these words
-abbrev pub before_text : List ℕ → Option Entry → List ℕ
-before_text words end = option_map_or (λ e. words ++ entry_text e) end []
+-- what ended run b in this history, after these words, if the call is replied so
+abbrev pub before_text : List ℕ → List Entry → ℕ → Option Entry → List ℕ
+before_text words history b call = option_map_or (λ e. words ++ entry_text e) (if option_map_or (λ e. is_ended e.reply) call false then run_ended_by (reverse history) b else None) []
 
 -- where the calls of a run differ in two histories with these names: which call of which run it is, and the call of each
 unfoldable pub sides_text : Names → Names → Difference → List ℕ
@@ -71,7 +60,7 @@ sides_text left right d =
 abbrev pub parting_line : List (List ℕ) → List Entry → List Entry → Difference → List ℕ
 parting_line names left right d =
     shown_line (sides_text (names_in left (namings_of names)) (names_in right (namings_of names)) d
-    ++ (before_text (codes "; left: before it ") (end_before left d.run d.left) ++ before_text (codes "; right: before it ") (end_before right d.run d.right)))
+    ++ (before_text (codes "; left: before it ") left d.run d.left ++ before_text (codes "; right: before it ") right d.run d.right))
 
 -- the line of run b, if its calls differ
 abbrev pub parting : List (List ℕ) → List Entry → List Entry → ℕ → List ℕ

@@ -1,8 +1,8 @@
 //! What the details say of a test case that was explored.
-ghost use Rattle.std.specs.{Prelude.{◌≡◌, ◌==◌, ◌≤◌, ◌++◌, ◌∷◌, All, IfOk, OnOk, codes, flat_map, length, reverse}, List.range_with_len};
+ghost use Rattle.std.specs.{Prelude.{◌≡◌, ◌≤◌, ◌++◌, [], ◌∷◌, All, IfOk, OnOk, codes, flat_map, length, reverse}, List.range_with_len, Option.option_map_or};
 ghost use Rattle.tc_entry.specs.declared.limits.TheConstants.{BEHAVIOURS};
 ghost use Rattle.tc_course.specs.Prelude.{AreLegal};
-ghost use Rattle.tc_report.specs.Prelude.{decided_text, waits_text};
+ghost use Rattle.tc_report.specs.{Prelude.{cause_of as spec_cause, decided_text}, declared.results.CaseEnd.{CaseEnd as SpecEnd}};
 ghost use Rattle.tc_rules.specs.Prelude.{components, IsLegal, StandsFor, name_of as verdict_name};
 ghost use Rattle.tc_text.specs.Prelude.{shown_line};
 ghost use Rattle.tc_explored.specs.Details as spec;
@@ -13,13 +13,13 @@ use std::alloc::Global;
 use tc_course::{Ending, Explored, Witness};
 use tc_entry::{Comp, Entry, Name};
 use tc_report::{
-    CaseEnd, Cause, Names, append_component_in, append_decision, append_waits, cause_of, names_in,
+    CaseEnd, Names, append_component_in, append_decision, append_waits, cause_of, names_in,
     namings_of,
 };
 use tc_rules::{CaseState, CheckFault, replay};
 use tc_step::Script;
 use tc_text::{append_shown, append_text};
-use tc_verdict::{NoMemory, Verdict, name as name_of};
+use tc_verdict::{NoMemory, name as name_of};
 
 // The state of a case after these entries.
 fn state_after(alloc: Global, behaviours: u16, entries: &[Entry]) -> Result<CaseState, NoMemory>
@@ -96,50 +96,22 @@ fn append_locals_line(
     append_shown(alloc, out, text.as_slice())
 }
 
-fn append_decided_line(
-    out: &mut Vec<u8>,
-    names: &Names,
-    verdict: Verdict,
-    cause: &Cause,
-) -> Result<(), NoMemory>
-    ensures { OnOk result (out.new.items ≡ out.old.items
-        ++ shown_line ((32 ∷ (verdict_name verdict ++ codes ": ")) ++ decided_text names.now cause.now)) }
+// Appends the verdict of a witness, and what decided it, if it is worse than pass.
+fn append_decided(out: &mut Vec<u8>, names: &Names, witness: &Witness) -> Result<(), NoMemory>
+    ensures { OnOk result (out.new.items ≡ out.old.items ++ option_map_or (λ c. shown_line ((32 ∷ (verdict_name witness.now.verdict ++ codes ": ")) ++ decided_text names.now c))
+        (spec_cause (SpecEnd.Over witness.now.verdict) [] witness.now.history) []) }
 {
     let alloc = *out.allocator();
-    let mut text = format!(in alloc; " {}: ", name_of(verdict))?.into_bytes();
-    append_decision(&mut text, names, cause)?;
+    let ending = CaseEnd::Over(witness.verdict);
+    let Some(cause) = cause_of(alloc, ending, &[], witness.history.as_slice())? else {
+        return Ok(());
+    };
+    let mut text = format!(in alloc; " {}: ", name_of(witness.verdict))?.into_bytes();
+    append_decision(&mut text, names, &cause)?;
     append_shown(alloc, out, text.as_slice())
 }
 
-#[tactic(auto, unfolding(crate::specs::Details::decided))]
-fn append_decided(out: &mut Vec<u8>, names: &Names, witness: &Witness) -> Result<(), NoMemory>
-    ensures { OnOk result (out.new.items ≡ out.old.items ++ spec.decided names.now witness.now) }
-{
-    let ending = CaseEnd::Over(witness.verdict);
-    match cause_of(*out.allocator(), ending, &[], witness.history.as_slice())? {
-        Some(cause) => append_decided_line(out, names, witness.verdict, &cause),
-        None => Ok(()),
-    }
-}
-
-fn append_lines(
-    out: &mut Vec<u8>,
-    names: &Names,
-    behaviours: u16,
-    witness: &Witness,
-) -> Result<(), NoMemory>
-    requires some { 1 ≤ behaviours }
-    requires few { behaviours ≤ BEHAVIOURS }
-    requires legal { IsLegal behaviours (reverse witness.now.history) }
-    ensures { OnOk result (out.new.items ≡ out.old.items ++ (spec.locals names.now witness.now
-        ++ (spec.decided names.now witness.now ++ waits_text names.now behaviours witness.now.history))) }
-{
-    append_locals_line(out, names, behaviours, witness)?;
-    append_decided(out, names, witness)?;
-    let history = witness.history.as_slice();
-    append_waits(*out.allocator(), out, names, behaviours, history)
-}
-
+#[tactic(auto, unfolding(crate::specs::Details::witness_text))]
 fn append_witness(
     out: &mut Vec<u8>,
     names: &[Name],
@@ -152,8 +124,11 @@ fn append_witness(
     ensures { OnOk result (out.new.items ≡ out.old.items ++ spec.witness_text names.now behaviours witness.now) }
 {
     let alloc = *out.allocator();
-    let names = names_in(alloc, witness.history.as_slice(), namings_of(alloc, names)?)?;
-    append_lines(out, &names, behaviours, witness)
+    let history = witness.history.as_slice();
+    let names = names_in(alloc, history, namings_of(alloc, names)?)?;
+    append_locals_line(out, &names, behaviours, witness)?;
+    append_decided(out, &names, witness)?;
+    append_waits(alloc, out, &names, behaviours, history)
 }
 
 fn append_each(

@@ -64,25 +64,19 @@ fn ending_words(alloc: Global, ending: Ending, states: usize) -> Result<String, 
     })
 }
 
-// The status of a complete search that found these.
-fn found_status(found: &[Witness]) -> u8
-    ensures { result ≡ line.found_status found.now }
-{
-    match count_of(found) {
-        0 => 3,
-        1 if is_found(found, Verdict::Error) => 2,
-        1 => 0,
-        _ => 1,
-    }
-}
-
 /// The status of the test case: 0 if one verdict was found, or 2 if that is error, 1 if more were; 3 if the search met
 /// its limit.
 pub fn explored_status(explored: &Explored) -> u8
     ensures { result ≡ line.explored_status explored.now }
 {
+    let found = explored.found.as_slice();
     match explored.ending {
-        Ending::Complete => found_status(explored.found.as_slice()),
+        Ending::Complete => match count_of(found) {
+            0 => 3,
+            1 if is_found(found, Verdict::Error) => 2,
+            1 => 0,
+            _ => 1,
+        },
         Ending::Undecided(_) => 3,
     }
 }
@@ -182,17 +176,6 @@ fn append_local_line(out: &mut Vec<u8>, locals: &Locals, comp: usize) -> Result<
     append_shown(alloc, out, text.as_slice())
 }
 
-#[tactic(auto, using(tc_course::proofs::Lemmas::next_of))]
-fn append_local_lines(out: &mut Vec<u8>, locals: &Locals) -> Result<(), NoMemory>
-    ensures { OnOk result (out.new.items ≡ out.old.items
-        ++ flat_map (line.local_line locals.now) (range_with_len 0 (length locals.now.found / 5 + 1))) }
-{
-    for comp in 0..locals.found.as_slice().len() / 5 + 1 {
-        append_local_line(out, locals, comp)?;
-    }
-    Ok(())
-}
-
 // Appends how many states a search looked at that met its limit; if memory runs out, a part of it.
 fn append_undecided(alloc: Global, out: &mut Vec<u8>, locals: &Locals) -> Result<(), NoMemory>
     ensures { OnOk result (out.new.items ≡ out.old.items ++ line.if_complete locals.now.ending []
@@ -210,10 +193,12 @@ fn append_undecided(alloc: Global, out: &mut Vec<u8>, locals: &Locals) -> Result
 
 /// Appends the components that are found with several local verdicts, each with these; and, if the search met its limit,
 /// how many states it looked at. If memory runs out, a part of it.
-#[tactic(auto, unfolding(crate::specs::Line::locals_text))]
+#[tactic(auto, unfolding(crate::specs::Line::locals_text), using(tc_course::proofs::Lemmas::next_of))]
 pub fn append_locals(alloc: Global, out: &mut Vec<u8>, locals: &Locals) -> Result<(), NoMemory>
     ensures { OnOk result (out.new.items ≡ out.old.items ++ line.locals_text locals.now) }
 {
-    append_local_lines(out, locals)?;
+    for comp in 0..locals.found.as_slice().len() / 5 + 1 {
+        append_local_line(out, locals, comp)?;
+    }
     append_undecided(alloc, out, locals)
 }

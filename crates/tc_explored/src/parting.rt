@@ -1,6 +1,6 @@
 //! The first call of each run that differs in two witnesses.
-ghost use Rattle.std.specs.{Prelude.{◌≡◌, ◌++◌, ◌&&◌, IfOk, OnOk, not, option_copied, reverse}, List.flat_map, List.range_with_len};
-ghost use Rattle.tc_rules.specs.Prelude.{is_by, is_parked};
+ghost use Rattle.std.specs.{Prelude.{◌≡◌, ◌++◌, ◌&&◌, IfOk, None, OnOk, Some, false, if◌then◌else◌, not, option_copied, reverse}, List.flat_map, List.range_with_len, Option.option_map_or};
+ghost use Rattle.tc_rules.specs.Prelude.{halts, is_by, is_parked};
 ghost use Rattle.tc_report.specs.Prelude.{names_in as spec_names, namings_of as spec_namings};
 ghost use Rattle.tc_explored.specs.Race as spec;
 
@@ -60,10 +60,11 @@ fn difference_of(
     }
 }
 
-// Whether the entry ends a run on this component, if it is on one.
+// Whether the entry ends a run on this component, if it is on one: it halts the component, and is no end of another run's
+// behaviour.
 #[tactic(auto, unfolding(tc_rules::specs::History::ends_pass))]
 fn ends_run(run: u16, on: Option<Comp>, entry: &Entry) -> bool
-    ensures { result ≡ spec.ends_run run on entry.now }
+    ensures { result ≡ option_map_or (λ c. halts (if is_by run entry.now then Some c else None) entry.now c.0) on false }
 {
     let Some(comp) = on else {
         return false;
@@ -92,16 +93,6 @@ fn run_ended_by(history: &[Entry], run: u16) -> Option<&Entry>
     ended
 }
 
-// The entry that ended a run in this history, if the call is replied so.
-fn end_before<'a>(history: &'a [Entry], run: u16, call: &Option<Entry>) -> Option<&'a Entry>
-    ensures { option_copied result ≡ spec.end_before history.now run call.now }
-{
-    match call {
-        Some(entry) if entry.reply.is_ended() => run_ended_by(history, run),
-        _ => None,
-    }
-}
-
 // Appends a call in a test case with these names, or that it is not made.
 fn append_side(out: &mut Vec<u8>, names: &Names, call: &Option<Entry>) -> Result<(), NoMemory>
     ensures { OnOk result (out.new.items ≡ out.old.items ++ spec.side_text names.now call.now) }
@@ -112,10 +103,20 @@ fn append_side(out: &mut Vec<u8>, names: &Names, call: &Option<Entry>) -> Result
     }
 }
 
-// Appends what ended a run, after these words, if an entry did.
-fn append_before(out: &mut Vec<u8>, words: &str, end: Option<&Entry>) -> Result<(), NoMemory>
-    ensures { OnOk result (out.new.items ≡ out.old.items ++ spec.before_text words.now (option_copied end.entry)) }
+// Appends what ended a run in this history, after these words, if the call is replied so.
+fn append_before(
+    out: &mut Vec<u8>,
+    words: &str,
+    history: &[Entry],
+    run: u16,
+    call: &Option<Entry>,
+) -> Result<(), NoMemory>
+    ensures { OnOk result (out.new.items ≡ out.old.items ++ spec.before_text words.now history.now run call.now) }
 {
+    let end = match call {
+        Some(entry) if entry.reply.is_ended() => run_ended_by(history, run),
+        _ => None,
+    };
     if let Some(entry) = end {
         append_text(out, words)?;
         append_entry(out, entry)?;
@@ -172,10 +173,14 @@ fn append_line(
     let run = difference.run;
     let mut text = Vec::new(alloc);
     append_named_sides(&mut text, names, left, right, difference)?;
-    let left_end = end_before(left, run, &difference.left);
-    append_before(&mut text, "; left: before it ", left_end)?;
-    let right_end = end_before(right, run, &difference.right);
-    append_before(&mut text, "; right: before it ", right_end)?;
+    append_before(&mut text, "; left: before it ", left, run, &difference.left)?;
+    append_before(
+        &mut text,
+        "; right: before it ",
+        right,
+        run,
+        &difference.right,
+    )?;
     append_shown(alloc, out, text.as_slice())
 }
 

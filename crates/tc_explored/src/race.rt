@@ -1,6 +1,7 @@
 //! Two witnesses from where they part: side by side, or run by run.
 ghost use Rattle.std.specs.{Prelude.{◌≡◌, ◌≤◌, ◌++◌, IfOk, OnOk, codes, drop, length}, List.common_prefix_len};
 ghost use Rattle.tc_blocks.specs.Prelude.{entry_text};
+ghost use Rattle.tc_report.specs.Prelude.{named_call, no_names as spec_no_names};
 ghost use Rattle.tc_explored.specs.Race as spec;
 
 use crate::parting::append_partings;
@@ -28,7 +29,7 @@ pub(crate) fn append_entry(out: &mut Vec<u8>, entry: &Entry) -> Result<(), NoMem
 
 // A call and its reply, by numbers only.
 fn plain_call(alloc: Global, entry: &Entry) -> Result<Vec<u8>, NoMemory>
-    ensures { IfOk result (λ text. text.items ≡ spec.plain_call entry.now) }
+    ensures { IfOk result (λ text. text.items ≡ named_call spec_no_names entry.now.op entry.now.reply) }
 {
     let mut text = Vec::new(alloc);
     append_named_call(&mut text, &no_names(alloc), &entry.op, entry.reply)?;
