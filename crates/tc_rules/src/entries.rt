@@ -1,5 +1,5 @@
 //! What one entry says of the case, of a component and of a run.
-ghost use Rattle.std.specs.Prelude.{◌≡◌};
+ghost use Rattle.std.specs.Prelude.{◌≡◌, ◌||◌};
 ghost use Rattle.tc_rules.specs.History as history;
 ghost use Rattle.tc_rules.specs.Laws as laws;
 ghost use Rattle.tc_rules.specs.Inside.Words.{started_run};
@@ -56,12 +56,26 @@ pub fn ends_case(entry: &Entry) -> bool
             || is_kill_of(&entry.op, 0))
 }
 
+/// Whether the operation is a Stop or Kill of the component.
+fn is_end_of(op: &Op, comp: u32) -> bool
+    ensures { result ≡ (history.is_stop_of op.now comp || history.is_kill_of op.now comp) }
+{
+    matches!(op, Op::Stop(group) | Op::Kill(group) if group.is_of(comp))
+}
+
 /// Whether an entry by a run on component own ends its pass.
 #[tactic(auto, unfolding(crate::specs::History::ends_pass))]
 pub fn ends_pass(own: Comp, entry: &Entry) -> bool
     ensures { result ≡ history.ends_pass own entry.now }
 {
-    entry.reply.is_ended() || halts(Some(own), entry, own.0)
+    match entry.reply {
+        Reply::Ended | Reply::Fault(_) => true,
+        _ => {
+            matches!(entry.op, Op::Finish | Op::StopCase)
+                || is_end_of(&entry.op, 0)
+                || is_end_of(&entry.op, own.0)
+        }
+    }
 }
 
 pub(crate) fn kills(entry: &Entry, comp: u32) -> bool
