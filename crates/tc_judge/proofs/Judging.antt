@@ -1,13 +1,13 @@
 -- Judged blocks: what `check` and `report` make of them.
 use Rattle.std.{proofs.{Common.{All, ℕ, ◌≡◌, ◌≢◌, ◌∙◌, ◌&&◌, ◌||◌, ◌==◌, cond, not, Bool, true, false, Option, Some, None, List, [], ◌∷◌, ◌++◌, if◌then◌else◌, filter, length, map, reverse, refl, ap, ap₂, sym, subst, codes, Result, Err}, lemmas.List.{Elements.{All-cons, All-filter, All-head, All-nil, All-tail}, Folds.flat_map-map}}, specs.{List.{AllZip, flat_map, list_any}, Prelude.{IsErrAnd, is_some, Ok}}}
 use Rattle.tc_answer.{specs.{Prelude.have_names, declared.{fault.RunFault.RunFault, reply.Answer.Answer}}, proofs.Lemmas.Chosen.{at_place, zip_filter}}
-use Rattle.tc_blocks.specs.{declared.{block.Block.Block, line.Line.Line}, Prelude.{entries_of, entry_in}}
+use Rattle.tc_blocks.specs.{declared.{block.Block.Block, line.Line.Line}, Prelude.{AreEvidence, entries_of, entry_in}}
 use Rattle.tc_command.specs.declared.task.{Choice.Choice, ReportForm.ReportForm}
 use Rattle.tc_report.{specs.{Prelude.{block_summary, blocks_report, bare_summary, replayed_text, said_in, said_with, summary_of, verdict_status, verdicts_closing, worst_of}, declared.{results.CaseEnd.CaseEnd, said.Said.Said, summary.Summary.Summary}}, proofs.Lemmas.Telling.said_more}
 use Rattle.tc_rules.specs.Prelude.{Entry, StandsFor, Verdict, matches, name_of}
 use Rattle.tc_text.specs.Prelude.{reply_text}
 use Rattle.tc_reader.specs.Prelude.{Word}
-use Rattle.tc_judge.{specs.{Check.{AreAllLegal, Checks, IsChecked, IsIllegalLine, IsLegalBlock, IsMadeOfBlocks, IsSilent, NameBlocks, RefusesBlocks, disagreeing_line, counting, is_chosen}, Inside.{AreChosenBlocks, AreJudgedIn, ArePicked, IsFirstIllegal, IsJudgedBlock, IsJudgement, IsPlayed, IsPlayedTo, IsSummaryOf, IsTextFor, IsWholeOfBlock, Reports, block_name, first_illegal, illegal_line, is_picked, judged_name, judged_report, judged_text, judges_legal, line_of_judgement, names_found, picked_by, printed, summary_by, gives_text, made_line}, Report.{AnswersCases, IsForm, IsReport, IsReported, body_of, summaries_of, is_of_judged}, declared.{judged.Judged.Judged, kept.Whole.Whole, playing.{Difference.Difference, Judgement.Judgement, Playing.Playing}}}, proofs.Lemmas.{answer_of, block_line, none_illegal, entries_last, no_difference}}
+use Rattle.tc_judge.{specs.{Check.{Checks, IsChecked, IsIllegalLine, IsLegalBlock, IsMadeOfBlocks, IsSilent, RefusesBlocks, are_named, disagreeing_line, counting, is_chosen}, Inside.{AreChosenBlocks, AreJudgedIn, ArePicked, IsFirstIllegal, IsJudgedBlock, IsJudgement, IsPlayed, IsPlayedTo, IsSummaryOf, IsTextFor, IsWholeOfBlock, Reports, block_name, first_illegal, illegal_line, is_picked, judged_name, judged_report, judged_text, judges_legal, line_of_judgement, names_found, picked_by, printed, summary_by, gives_text, made_line}, Report.{AnswersCases, IsForm, IsReport, IsReported, is_of_judged}, declared.{judged.Judged.Judged, kept.Whole.Whole, playing.{Difference.Difference, Judgement.Judgement, Playing.Playing}}}, proofs.Lemmas.{answer_of, block_line, none_illegal, entries_last, no_difference}}
 
 -- what holds of a fault holds of the answer that passes it on
 pub passed_on : {A E : Type 0} (holds : Result A E → Type 0) (answer : Result A E) (fault : E) → IsErrAnd answer (λ f. f ≡ fault) → holds (Err fault) → holds answer
@@ -87,28 +87,28 @@ module _ {K : Type 0} (keeps : Block → K → Type 0) where
   same_names (pattern ∷ only) bs js each = ap₂ (λ x y. x && y) (any_named (matches pattern) bs js each) (same_names only bs js each)
 
   -- if all blocks are legal, the patterns name blocks
-  pub all_named : (choice : Choice) (text : List ℕ) (js : List (Judged K)) → AreJudgedIn keeps choice.last text js → names_found choice js ≡ true → NameBlocks choice.last choice.only.items text
+  pub all_named : (choice : Choice) (text : List ℕ) (js : List (Judged K)) → AreJudgedIn keeps choice.last text js → names_found choice js ≡ true
+      → (all : List Block) → AreEvidence text all → All IsLegalBlock (counting choice.last all) → are_named choice.last choice.only.items all ≡ true
   all_named choice text js are found all is = by (counting choice.last all) (are.holds all is) (first_illegal js) (first_found (counting choice.last all) js (are.holds all is)) found
     where
       by : (bs : List Block) → AllZip (IsJudgedBlock keeps) bs js → (o : Option Judgement) → IsFirstIllegal bs o
-          → (is_some o || have_names judged_name choice.only.items js) ≡ true → AreAllLegal bs → have_names block_name choice.only.items bs ≡ true
+          → (is_some o || have_names judged_name choice.only.items js) ≡ true → All IsLegalBlock bs → have_names block_name choice.only.items bs ≡ true
       by bs each None so has legal = sym (same_names choice.only.items bs js each) ∙ has
       by bs each (Some k) so has legal = absurd (none_illegal bs (illegal_line k) legal so)
 
   -- or one of them names none
   pub names_lacking : (choice : Choice) (text : List ℕ) (js : List (Judged K)) → AreJudgedIn keeps choice.last text js → names_found choice js ≡ false
-      → RefusesBlocks choice.last choice.only.items text RunFault.Only
-  names_lacking choice text js are lack = by (first_illegal js) (first_found bs js each) lack
+      → RefusesBlocks (All IsLegalBlock) choice.last choice.only.items text RunFault.Only
+  names_lacking choice text js are lack = record {
+    blocks = are.blocks;
+    evidence = are.evidence;
+    holds = λ all is. by (counting choice.last all) (are.holds all is) (first_illegal js) (first_found (counting choice.last all) js (are.holds all is)) lack;
+  }
     where
-      bs : List Block
-      bs = counting choice.last are.blocks
-
-      each : AllZip (IsJudgedBlock keeps) bs js
-      each = are.holds are.blocks are.evidence
-
-      by : (o : Option Judgement) → IsFirstIllegal bs o → (is_some o || have_names judged_name choice.only.items js) ≡ false → RefusesBlocks choice.last choice.only.items text RunFault.Only
-      by None so has = (are.blocks, are.evidence, so, sym (same_names choice.only.items bs js each) ∙ has)
-      by (Some k) so has = absurd cc
+      by : (bs : List Block) → AllZip (IsJudgedBlock keeps) bs js → (o : Option Judgement) → IsFirstIllegal bs o
+          → (is_some o || have_names judged_name choice.only.items js) ≡ false → All IsLegalBlock bs × (have_names block_name choice.only.items bs ≡ false)
+      by bs each None so has = (so, sym (same_names choice.only.items bs js each) ∙ has)
+      by bs each (Some k) so has = absurd cc
 
   -- ---- what `check` makes of them
 
@@ -133,7 +133,7 @@ module _ {K : Type 0} (keeps : Block → K → Type 0) where
   pub blocks_checked : (choice : Choice) (only : List Word) (text out : List ℕ) (status : ℕ) (js : List (Judged K)) → only ≡ choice.only.items → AreJudgedIn keeps choice.last text js
       → names_found choice js ≡ true → out ≡ printed (is_picked only choice.failed) js
       → status ≡ (if is_some (first_illegal js) then 3 else 0)
-      → IsMadeOfBlocks choice text (IsSilent (IsChecked choice.last (is_chosen choice) text)) (Ok (answer_of out [] status))
+      → IsMadeOfBlocks (All IsLegalBlock) choice text (IsSilent (IsChecked choice.last (is_chosen choice) text)) (Ok (answer_of out [] status))
   blocks_checked choice only text out status js same are found lines status_is = (
     (all_checked choice.last (is_picked choice.only.items choice.failed) text out status js are (lines ∙ ap (λ o. printed (is_picked o choice.failed) js) same) status_is, refl),
     all_named choice text js are found,
@@ -182,15 +182,15 @@ module _ {K : Type 0} (keeps : Block → K → Type 0) where
 
   -- some pattern of the choice matches the name of none
   pub pick_refused : (form : ReportForm) (choice : Choice) (text : List ℕ) (js : List (Judged K)) (answer : Result Answer RunFault) (fault : RunFault) → IsErrAnd answer (λ f. f ≡ fault)
-      → AreJudgedIn keeps choice.last text js → (fault ≡ RunFault.Only) × (names_found choice js ≡ false) → IsMadeOfBlocks choice text (IsReported form choice.last (is_chosen choice) text) answer
+      → AreJudgedIn keeps choice.last text js → (fault ≡ RunFault.Only) × (names_found choice js ≡ false) → IsMadeOfBlocks (All IsLegalBlock) choice text (IsReported form choice.last (is_chosen choice) text) answer
   pick_refused form choice text js answer fault passed are lacking =
-      passed_on (IsMadeOfBlocks choice text (IsReported form choice.last (is_chosen choice) text)) answer fault passed
+      passed_on (IsMadeOfBlocks (All IsLegalBlock) choice text (IsReported form choice.last (is_chosen choice) text)) answer fault passed
       (rw lacking.0 (names_lacking keeps choice text js are lacking.1))
 
   -- what is answered for those that are picked is made of the text
   pub pick_reported : (form : ReportForm) (choice : Choice) (text : List ℕ) (js chosen : List (Judged K)) (illegal : Option Judgement) (notes : List ℕ) (a : Answer) → AreJudgedIn keeps choice.last text js
       → ArePicked choice js chosen illegal → notes ≡ [] → ((bs cs : List Block) → AreChosenBlocks keeps bs cs chosen illegal → IsReport form text bs cs [] notes a)
-      → IsMadeOfBlocks choice text (IsReported form choice.last (is_chosen choice) text) (Ok a)
+      → IsMadeOfBlocks (All IsLegalBlock) choice text (IsReported form choice.last (is_chosen choice) text) (Ok a)
   pick_reported form choice text js chosen illegal notes a are picked none reports = (
     record {
       blocks = are.blocks;
@@ -214,7 +214,7 @@ report_alike c j is legal =
     ap (λ s. replayed_text s j.kept.behaviours j.kept.entries.items j.verdict) (is.kept.summary legal)
     ∙ rw (is.kept.behaviours, is.kept.entries, is.verdict) refl
 
-pub text_alike : (cs : List Block) (js : List (Judged Whole)) → AllZip (IsJudgedBlock IsWholeOfBlock) cs js → AreAllLegal cs
+pub text_alike : (cs : List Block) (js : List (Judged Whole)) → AllZip (IsJudgedBlock IsWholeOfBlock) cs js → All IsLegalBlock cs
     → judged_text js ≡ blocks_report cs
 text_alike cs js each legal =
     let texts = map_alike (IsJudgedBlock IsWholeOfBlock) IsLegalBlock block_report judged_report report_alike cs js each legal in
@@ -222,10 +222,12 @@ text_alike cs js each legal =
     ap₂ (λ l vs. l ++ verdicts_closing vs) (sym (flat_map-map (λ l. l) judged_report js) ∙ (ap (flat_map (λ l. l)) texts ∙ flat_map-map (λ l. l) block_report cs)) verdicts
 
 -- an answer for test cases
-pub answer_made : (form : ReportForm) (text notes lent : List ℕ) (ss : List Summary) (out told : List ℕ) (worst status : ℕ) → IsForm form text ss out → told ≡ notes → lent ≡ notes
-    → worst ≡ verdict_status (worst_of ss) → status ≡ (if length lent == 0 then worst else 3) → AnswersCases form text notes ss (answer_of out told status)
-answer_made form text notes lent ss out told worst status out_is told_is same worst_is status_is =
-    (out_is, told_is, status_is ∙ ap₂ (λ l w. if length l == 0 then w else 3) same worst_is)
+pub answer_made : (form : ReportForm) (text notes lent : List ℕ) (ss : List Summary) (out told : List ℕ) (worst status : ℕ)
+    → ((given : List ℕ) (chosen : List Block) → IsTextFor form given chosen text → IsForm form given chosen ss out) → told ≡ notes → lent ≡ notes
+    → worst ≡ verdict_status (worst_of ss) → status ≡ (if length lent == 0 then worst else 3)
+    → (given : List ℕ) (chosen : List Block) → IsTextFor form given chosen text → AnswersCases form given chosen notes ss (answer_of out told status)
+answer_made form text notes lent ss out told worst status out_is told_is same worst_is status_is given chosen fits =
+    (out_is given chosen fits, told_is, status_is ∙ ap₂ (λ l w. if length l == 0 then w else 3) same worst_is)
 
 -- the text of all blocks is that of each form but the text report
 pub other_text : (form : ReportForm) (given : List ℕ) (chosen : List Block) → form ≢ ReportForm.Text → IsTextFor form given chosen given
@@ -241,13 +243,8 @@ no_text _ given text chosen is = tt
 
 -- what is made of a text, none of whose blocks is illegal
 pub legal_report : (form : ReportForm) (given text : List ℕ) (ss : List Summary) (names : List (List ℕ)) (notes : List ℕ) (a : Answer) (blocks chosen : List Block)
-    → (AreAllLegal blocks → IsTextFor form given chosen text) → AnswersCases form text notes (ss ++ map (bare_summary CaseEnd.Missing) names) a
+    → (All IsLegalBlock blocks → IsTextFor form given chosen text)
+    → (IsTextFor form given chosen text → AnswersCases form given chosen notes (ss ++ map (bare_summary CaseEnd.Missing) names) a)
     → Reports blocks chosen ss None → IsReport form given blocks chosen names notes a
 legal_report form given text ss names notes a blocks chosen fits is made =
-    IsReport.legal made.0 (by form (fits made.0) (subst (λ l. AnswersCases form text notes (l ++ map (bare_summary CaseEnd.Missing) names) a) (made.1 made.0) is))
-  where
-    by : (form : ReportForm) → IsTextFor form given chosen text → AnswersCases form text notes (summaries_of chosen names) a
-        → AnswersCases form (body_of form given chosen) notes (summaries_of chosen names) a
-    by ReportForm.Text same is = subst (λ t. AnswersCases ReportForm.Text t notes (summaries_of chosen names) a) same is
-    by ReportForm.Html same is = subst (λ t. AnswersCases ReportForm.Html t notes (summaries_of chosen names) a) same is
-    by _ same is = is
+    IsReport.legal made.0 (subst (λ l. AnswersCases form given chosen notes (l ++ map (bare_summary CaseEnd.Missing) names) a) (made.1 made.0) (is (fits made.0)))

@@ -2,7 +2,7 @@
 use Rattle.std.{proofs.{Common.{ℕ, ◌≡◌, ◌≢◌, ◌≤◌, ◌+◌, ◌-◌, ◌^◌, ◌∙◌, true, false, None, Some, Option, List, [], ◌∷◌, ◌++◌, length, reverse, if◌then◌else◌, ap, ap₂, sym, subst, append_assoc, arith, Bool, refl, suc, All}, Math.Nat.min-eq_left, lemmas.{List.{Concat.flat_map-append, append-nil, length-append, reverse-append, Elements.{All-head, All-tail, All-cons, All-nil}}, Bool.false≢true}}, specs.{Prelude.{is_some, min}, List.{flat_map, AllZip}}}
 use Rattle.tc_rules.specs.Prelude.{Entry, Reply, answer, IsLegal, IsReplyOf, Kept, StandsFor, TakesIn}
 use Rattle.tc_blocks.specs.{declared.{line.Line.Line, block.Block.Block}, Prelude.{entries_of, entry_in, LinesAreLegal}}
-use Rattle.tc_judge.specs.{Inside.{IsOtherReply, IsPlayedTo, each}, declared.playing.Difference.Difference, Check.{AreAllLegal, Checks, IsIllegalLine, IsLegalBlock, legal_line}}
+use Rattle.tc_judge.specs.{Inside.{IsOtherReply, IsPlayedTo, each}, declared.playing.Difference.Difference, Check.{Checks, IsIllegalLine, IsLegalBlock, legal_line}}
 use Rattle.tc_entry.specs.declared.limits.TheConstants.{BEHAVIOURS}
 use Rattle.tc_exec.specs.declared.test_case.Case.{Case}
 use Rattle.tc_reader.specs.Prelude.{CampaignView, IsCase, Word}
@@ -115,7 +115,7 @@ abbrev pub block_line : Block → List ℕ
 block_line b = legal_line b.header.name (length (entries_of b.lines)) b.verdict
 
 -- whichever of them are printed, legal blocks are found legal
-found_all : (test : Block → Bool) (bs : List Block) (out : List ℕ) (legal : Bool) → AreAllLegal bs → Checks test bs out legal
+found_all : (test : Block → Bool) (bs : List Block) (out : List ℕ) (legal : Bool) → All IsLegalBlock bs → Checks test bs out legal
     → (out ≡ flat_map (λ b. if test b then block_line b else []) bs) × (legal ≡ true)
 found_all test _ _ _ all Checks.none = (refl, refl)
 found_all test _ _ _ all (Checks.goes_on b rest line out legal says more) =
@@ -123,11 +123,11 @@ found_all test _ _ _ all (Checks.goes_on b rest line out legal says more) =
     (ap₂ (λ x y. (if test b then x else []) ++ y) says.1 two.0, two.1)
 found_all test _ _ _ all (Checks.stops b rest line says) = absurd (no_other b line (All-head IsLegalBlock b rest all) says)
 
-pub only_legal : (bs : List Block) (out : List ℕ) (legal : Bool) → AreAllLegal bs → Checks each bs out legal → (out ≡ flat_map block_line bs) × (legal ≡ true)
+pub only_legal : (bs : List Block) (out : List ℕ) (legal : Bool) → All IsLegalBlock bs → Checks each bs out legal → (out ≡ flat_map block_line bs) × (legal ≡ true)
 only_legal = found_all each
 
 -- and none of them is found not to be
-pub none_illegal : (bs : List Block) (line : List ℕ) → AreAllLegal bs → Checks (λ b. false) bs line false → ⊥
+pub none_illegal : (bs : List Block) (line : List ℕ) → All IsLegalBlock bs → Checks (λ b. false) bs line false → ⊥
 none_illegal bs line all checks = false≢true (found_all (λ b. false) bs line false all checks).1
 
 -- ---- test cases have few behaviours

@@ -1,5 +1,5 @@
 -- What `check` prints for histories and evidence, and of them the chosen.
-use Rattle.std.specs.{Prelude.{ℕ, ◌≡◌, ◌≢◌, ◌⊎◌, ◌+◌, All, Bool, true, false, if◌then◌else◌, List, [], ◌∷◌, ◌++◌, length, reverse, codes, MatchResult, Option, Result, Err, ◌==◌, ◌&&◌, fold, not, IfSome}, Fmt.decimal}
+use Rattle.std.specs.{Prelude.{ℕ, ◌≡◌, ◌≢◌, ◌⊎◌, ◌+◌, Bool, true, false, if◌then◌else◌, List, [], ◌∷◌, ◌++◌, length, reverse, codes, MatchResult, Option, Result, Err, ◌==◌, ◌&&◌, fold, not, IfSome}, Fmt.decimal}
 use Rattle.tc_rules.specs.Prelude.{Verdict, name_of, Entry, Reply, answer}
 use Rattle.tc_text.specs.Prelude.{reply_text}
 use Rattle.tc_blocks.specs.{declared.{block.Block.Block, limit.Limit.Limit, line.Line.Line}, Prelude.{entries_of, LinesAreLegal, overall_of, AreEvidence, IsPastLimit, HoldsOfBlocks, IsFault, IsHeader, IsReadIn}}
@@ -75,30 +75,26 @@ pub record IsChecked (last : Bool) (is_chosen : Block → Bool) (text out : List
 abbrev pub RefusesHistory : List ℕ → RunFault → Type 0
 RefusesHistory text = RefusesText (λ fault. IsFault IsHeader text fault × ((blocks : List Block) → AreEvidence text blocks → ⊥))
 
--- all of these blocks are legal
-abbrev pub AreAllLegal : List Block → Type 0
-AreAllLegal = All IsLegalBlock
+-- each of these patterns matches the name of a block that counts
+abbrev pub are_named : Bool → List (List ℕ) → List Block → Bool
+are_named last only all = have_names (λ b. b.header.name) only (counting last all)
 
--- each of these patterns matches the name of a block of the text, if all its blocks that count are legal
-abbrev pub NameBlocks : Bool → List (List ℕ) → List ℕ → Type 0
-NameBlocks last only text =
-    (all : List Block) → AreEvidence text all → AreAllLegal (counting last all) → have_names (λ b. b.header.name) only (counting last all) ≡ true
-
--- the text is refused as one of histories and evidence; or all its blocks that count are legal, and some pattern matches the
--- name of none
-abbrev pub RefusesBlocks : Bool → List (List ℕ) → List ℕ → RunFault → Type 0
-RefusesBlocks last only text RunFault.Only =
-    (all : List Block) × AreEvidence text all × AreAllLegal (counting last all) × (have_names (λ b. b.header.name) only (counting last all) ≡ false)
-RefusesBlocks last only text fault = RefusesHistory text fault
+-- the text is refused as one of histories and evidence; or this is so of its blocks that count, and some pattern matches the name of
+-- none
+abbrev pub RefusesBlocks : (List Block → Type 0) → Bool → List (List ℕ) → List ℕ → RunFault → Type 0
+RefusesBlocks Are last only text RunFault.Only = HoldsOfBlocks text (λ all. Are (counting last all) × (are_named last only all ≡ false))
+RefusesBlocks Are last only text fault = RefusesHistory text fault
 
 -- an answer of which nothing is printed, with such an output and status
 abbrev pub IsSilent : (List ℕ → ℕ → Type 0) → Answer → Type 0
 IsSilent Is a = Is a.out a.status × (a.told ≡ [])
 
--- The answer is so, and if all blocks that count are legal, each pattern of the choice matches the name of one. Otherwise the text is
--- refused, and after its blocks are judged a pattern.
-abbrev pub IsMadeOfBlocks : Choice → List ℕ → (Answer → Type 0) → Result Answer RunFault → Type 0
-IsMadeOfBlocks choice text Is made = MatchResult made (λ a. Is a × NameBlocks choice.last choice.only.items text) (RefusesBlocks choice.last choice.only.items text)
+-- The answer is so, and if this is so of the blocks that count, each pattern of the choice matches the name of one. Otherwise the text is
+-- refused, and after its blocks are read a pattern.
+abbrev pub IsMadeOfBlocks : (List Block → Type 0) → Choice → List ℕ → (Answer → Type 0) → Result Answer RunFault → Type 0
+IsMadeOfBlocks Are choice text Is made = MatchResult made
+    (λ a. Is a × ((all : List Block) → AreEvidence text all → Are (counting choice.last all) → are_named choice.last choice.only.items all ≡ true))
+    (RefusesBlocks Are choice.last choice.only.items text)
 
 -- how many bytes histories may have: all together, or, if they may be long, each block
 abbrev pub history_limit : Bool → Limit

@@ -11,7 +11,7 @@ use Rattle.tc_report.specs.{Prelude.{block_summary, blocks_report, replayed_text
 use Rattle.tc_exec.specs.declared.test_case.Case.{Case}
 use Rattle.tc_command.specs.declared.task.{Choice.Choice, ReportForm.ReportForm}
 use Rattle.tc_answer.specs.{Prelude.{AreChosen, blocks_part, have_names, is_asked, script_part}, Inside.{place_text, IsCaseOf}}
-use Rattle.tc_judge.specs.{Check.{AreAllLegal, Checks, IsLegalBlock, legal_line, counting, is_passing}, Compared.{IsCompared, IsJudged, has_block_named, has_later, missing}, declared.{compare.{Comparing.Comparing, Comparison.Comparison, Wrong.Wrong}, judged.{Judged.Judged, Recorded.Recorded}, kept.{Nothing.Nothing, Whole.Whole}, passed.Seen.Seen, playing.{Difference.Difference, Judgement.Judgement, Playing.Playing}}}
+use Rattle.tc_judge.specs.{Check.{Checks, IsLegalBlock, legal_line, counting, is_passing}, Compared.{IsCompared, IsJudged, has_block_named, has_later, missing}, declared.{compare.{Comparing.Comparing, Comparison.Comparison, Wrong.Wrong}, judged.{Judged.Judged, Recorded.Recorded}, kept.{Nothing.Nothing, Whole.Whole}, passed.Seen.Seen, playing.{Difference.Difference, Judgement.Judgement, Playing.Playing}}}
 
 -- the name of a block
 abbrev pub block_name : Block → Word
@@ -172,18 +172,18 @@ judged_text js = flat_map judged_report js ++ verdicts_closing (map (λ j. j.ver
 
 -- this is the judgement of the first of these blocks that is not legal, if there is one
 abbrev pub IsFirstIllegal : List Block → Option Judgement → Type 0
-IsFirstIllegal blocks None = AreAllLegal blocks
+IsFirstIllegal blocks None = All IsLegalBlock blocks
 IsFirstIllegal blocks (Some judgement) = Checks (λ b. false) blocks (illegal_line judgement) false
 
 -- and these are the test cases of the chosen ones, if there is none
 abbrev pub Reports : List Block → List Block → List Summary → Option Judgement → Type 0
-Reports blocks chosen ss illegal = IsFirstIllegal blocks illegal × (AreAllLegal blocks → ss ≡ map block_summary chosen)
+Reports blocks chosen ss illegal = IsFirstIllegal blocks illegal × (All IsLegalBlock blocks → ss ≡ map block_summary chosen)
 
 -- these judged blocks are chosen ones, all legal if all blocks are, and this is the judgement of the first that is not
 pub record AreChosenBlocks {K : Type 0} (keeps : Block → K → Type 0) (blocks chosen : List Block) (js : List (Judged K)) (illegal : Option Judgement) : Type 0 where
   pub each : AllZip (IsJudgedBlock keeps) chosen js
   pub first : IsFirstIllegal blocks illegal
-  pub legal : AreAllLegal blocks → AreAllLegal chosen
+  pub legal : All IsLegalBlock blocks → All IsLegalBlock chosen
 
 -- by its judgement a block shows its test case to have passed
 abbrev pub passes : Judged Nothing → Bool

@@ -1,6 +1,6 @@
 //! The subcommand `check`.
-ghost use Rattle.std.specs.Prelude.{◌≡◌, List, ℕ, if◌then◌else◌, is_some};
-ghost use Rattle.tc_judge.specs.{Check.IsChecked, Check.IsMadeOfBlocks, Check.IsMadeOfInput, Check.IsSilent, Check.history_limit, Inside.AreJudgedIn, Inside.first_illegal as spec_first, Check.is_chosen};
+ghost use Rattle.std.specs.Prelude.{◌≡◌, All, List, ℕ, if◌then◌else◌, is_some};
+ghost use Rattle.tc_judge.specs.{Check.IsChecked, Check.IsLegalBlock, Check.IsMadeOfBlocks, Check.IsMadeOfInput, Check.IsSilent, Check.history_limit, Inside.AreJudgedIn, Inside.first_illegal as spec_first, Check.is_chosen};
 
 use crate::judged::{Judged, first_illegal, judge_input, judge_text};
 use crate::kept::{Keeps, Nothing};
@@ -28,7 +28,7 @@ fn checked<K: Keeps + Drop>(
     blocks: &[Judged<K>],
 ) -> Result<Answer, RunFault>
     ensures { (text : List ℕ) → AreJudgedIn K.keeps choice.now.last text blocks.now
-        → IsMadeOfBlocks choice.now text (IsSilent (IsChecked choice.now.last (is_chosen choice.now) text)) result }
+        → IsMadeOfBlocks (All IsLegalBlock) choice.now text (IsSilent (IsChecked choice.now.last (is_chosen choice.now) text)) result }
 {
     if !name_blocks(choice, blocks) {
         return Err(RunFault::Only);
@@ -40,7 +40,8 @@ fn checked<K: Keeps + Drop>(
 /// What `check` makes of the blocks of a text that count: which of the chosen are legal, up to the first of all that is not,
 /// and the status 0 if all are, otherwise 3. If all are, each pattern has to match the name of one.
 pub fn check_text(alloc: Global, choice: &Choice, text: &[u8]) -> Result<Answer, RunFault>
-    ensures { IsMadeOfBlocks choice.now text.now (IsSilent (IsChecked choice.now.last (is_chosen choice.now) text.now)) result }
+    ensures { IsMadeOfBlocks (All IsLegalBlock) choice.now text.now
+        (IsSilent (IsChecked choice.now.last (is_chosen choice.now) text.now)) result }
 {
     let blocks = judge_text::<Nothing>(alloc, choice.last, text)?;
     checked(alloc, choice, blocks.as_slice())
@@ -53,7 +54,8 @@ pub fn check_input<R: Read>(
     reader: &mut R,
 ) -> Result<Answer, RunFault>
     ensures { IsMadeOfInput (history_limit choice.now.long) (R.remaining reader.old)
-        (λ text made. IsMadeOfBlocks choice.now text (IsSilent (IsChecked choice.now.last (is_chosen choice.now) text)) made) result }
+        (λ text made. IsMadeOfBlocks (All IsLegalBlock) choice.now text
+        (IsSilent (IsChecked choice.now.last (is_chosen choice.now) text)) made) result }
 {
     let blocks = judge_input::<R, Nothing>(alloc, choice, reader)?;
     checked(alloc, choice, blocks.as_slice())

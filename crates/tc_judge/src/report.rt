@@ -1,9 +1,9 @@
 //! The subcommand `report`.
-ghost use Rattle.std.specs.{Prelude.◌≡◌, Prelude.◌==◌, Prelude.◌++◌, Prelude.List, Prelude.ℕ, Prelude.[], Prelude.codes, Prelude.false, Prelude.filter, Prelude.IfErr, Prelude.IfOk, Prelude.OnOk, Prelude.if◌then◌else◌, Prelude.length, Prelude.map, Prelude.true};
+ghost use Rattle.std.specs.{Prelude.◌≡◌, Prelude.◌==◌, Prelude.◌++◌, Prelude.All, Prelude.List, Prelude.ℕ, Prelude.[], Prelude.codes, Prelude.false, Prelude.filter, Prelude.IfErr, Prelude.IfOk, Prelude.OnOk, Prelude.if◌then◌else◌, Prelude.length, Prelude.map, Prelude.true};
 ghost use Rattle.tc_blocks.specs.declared.block.Block.{Block};
 ghost use Rattle.tc_report.specs.Prelude.{bare_summary as bare};
 ghost use Rattle.tc_report.specs.declared.results.CaseEnd.TheVariants.{Missing};
-ghost use Rattle.tc_judge.specs.{Check.AreAllLegal, Check.IsMadeOfBlocks, Check.IsMadeOfInput, Inside.AreChosenBlocks, Inside.AreJudgedIn, Inside.ArePicked, Inside.IsSummaryOf, Inside.IsTextFor, Inside.IsWholeOfBlock, Inside.Reports, Inside.illegal_line, Inside.is_picked as spec_picked, Inside.judged_text, Inside.names_found, Inside.summary_by, Check.is_chosen, Report.AnswersCases, Report.IsForm, Report.IsReport, Report.IsReported, Check.history_limit, Report.is_of_judged as spec_judged};
+ghost use Rattle.tc_judge.specs.{Check.IsLegalBlock, Check.IsMadeOfBlocks, Check.IsMadeOfInput, Inside.AreChosenBlocks, Inside.AreJudgedIn, Inside.ArePicked, Inside.IsSummaryOf, Inside.IsTextFor, Inside.IsWholeOfBlock, Inside.Reports, Inside.illegal_line, Inside.is_picked as spec_picked, Inside.judged_text, Inside.names_found, Inside.summary_by, Check.is_chosen, Report.AnswersCases, Report.IsForm, Report.IsReport, Report.IsReported, Check.history_limit, Report.is_of_judged as spec_judged};
 
 use crate::judged::{Judged, first_illegal, judge_input, judge_text};
 use crate::kept::{Summarizes, Whole};
@@ -58,7 +58,8 @@ fn form_text(
     text: &[u8],
     cases: &[Summary],
 ) -> Result<Vec<u8>, NoMemory>
-    ensures { IfOk result (λ v. IsForm form.now text.now cases.now v.items) }
+    ensures { IfOk result (λ v. (given : List ℕ) (chosen : List Block) → IsTextFor form.now given chosen text.now
+        → IsForm form.now given chosen cases.now v.items) }
 {
     match form {
         ReportForm::Text => Ok(text.to_vec(alloc)?),
@@ -97,7 +98,8 @@ fn legal_answer(
     cases: &[Summary],
     notes: Vec<u8>,
 ) -> Result<Answer, NoMemory>
-    ensures { IfOk result (AnswersCases form.now text.now notes.items cases.now) }
+    ensures { IfOk result (λ a. (given : List ℕ) (chosen : List Block) → IsTextFor form.now given chosen text.now
+        → AnswersCases form.now given chosen notes.items cases.now a) }
 {
     let out = form_text(alloc, form, text, cases)?;
     let status = noted_status(notes.as_slice(), worst_status(cases));
@@ -134,7 +136,7 @@ fn report_blocks<K: Summarizes + Drop>(
     missing: &[Name],
     notes: Vec<u8>,
 ) -> Result<Answer, NoMemory>
-    ensures { IfOk result (λ a. (given : List ℕ) (blocks of : List Block) → (AreAllLegal blocks → IsTextFor form.now given of text.now)
+    ensures { IfOk result (λ a. (given : List ℕ) (blocks of : List Block) → (All IsLegalBlock blocks → IsTextFor form.now given of text.now)
         → Reports blocks of (map (summary_by K.summary) chosen.items) illegal
         → IsReport form.now given blocks of missing.now notes.items a) }
 {
@@ -174,7 +176,7 @@ pub(crate) fn report_whole(
     missing: &[Name],
     notes: Vec<u8>,
 ) -> Result<Answer, NoMemory>
-    ensures { IfOk result (λ a. (given : List ℕ) (blocks of : List Block) → (AreAllLegal blocks → text.now ≡ given)
+    ensures { IfOk result (λ a. (given : List ℕ) (blocks of : List Block) → (All IsLegalBlock blocks → text.now ≡ given)
         → AreChosenBlocks IsWholeOfBlock blocks of chosen.items illegal
         → IsReport form.now given blocks of missing.now notes.items a) }
 {
@@ -196,7 +198,7 @@ fn reported(
 ) -> Result<Answer, RunFault>
     ensures { (given : List ℕ) → ((chosen : List Block) → IsTextFor form.now given chosen text.now)
         → AreJudgedIn IsSummaryOf choice.now.last given blocks.items
-        → IsMadeOfBlocks choice.now given (IsReported form.now choice.now.last (is_chosen choice.now) given) result }
+        → IsMadeOfBlocks (All IsLegalBlock) choice.now given (IsReported form.now choice.now.last (is_chosen choice.now) given) result }
 {
     let (chosen, illegal) = pick(choice, blocks)?;
     let answer = report_blocks(alloc, form, text, chosen, illegal, &[], Vec::new(alloc))?;
@@ -219,7 +221,8 @@ pub fn report_text(
     choice: &Choice,
     text: &[u8],
 ) -> Result<Answer, RunFault>
-    ensures { IsMadeOfBlocks choice.now text.now (IsReported form.now choice.now.last (is_chosen choice.now) text.now) result }
+    ensures { IsMadeOfBlocks (All IsLegalBlock) choice.now text.now
+        (IsReported form.now choice.now.last (is_chosen choice.now) text.now) result }
 {
     match form {
         ReportForm::Text => {
@@ -246,7 +249,8 @@ pub fn report_input<R: Read>(
 ) -> Result<Answer, RunFault>
     requires { spec_judged form.now ≡ true }
     ensures { IsMadeOfInput (history_limit choice.now.long) (R.remaining reader.old)
-        (λ text made. IsMadeOfBlocks choice.now text (IsReported form.now choice.now.last (is_chosen choice.now) text) made) result }
+        (λ text made. IsMadeOfBlocks (All IsLegalBlock) choice.now text
+        (IsReported form.now choice.now.last (is_chosen choice.now) text) made) result }
 {
     let blocks = judge_input::<R, Summary>(alloc, choice, reader)?;
     reported(alloc, form, choice, &[], blocks)

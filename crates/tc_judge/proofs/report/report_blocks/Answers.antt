@@ -11,7 +11,8 @@ returns-in_ok-add_missing-in-None g c =
     let ss = map (summary_by g.K.Summarizes.summary) c.args.chosen.items in
     let all = c.as_slice.ensures.value ∙ (c.in_ok-add_missing-in-None.ensures ∙ ap (λ l. l ++ map (bare_summary Missing) c.args.missing.now) c.in_ok-cases-in-None.ensures) in
     IfOk-weaker c.legal_answer.result _ _
-    (λ a is given blocks chosen fits made. legal_report form given text ss c.args.missing.now notes a blocks chosen fits (subst (λ l. AnswersCases form text notes l a) all is)
+    (λ a is given blocks chosen fits made. legal_report form given text ss c.args.missing.now notes a blocks chosen fits
+    (λ fit. subst (λ l. AnswersCases form given chosen notes l a) all (is given chosen fit))
     (subst (Reports blocks chosen ss) c.in-None.is made))
     c.legal_answer.ensures
 
