@@ -1,13 +1,13 @@
 -- What comes of a text, and of an input.
-use Rattle.std.{proofs.Common.{ℕ, Bool, false, true, ◌&&◌, ◌≡◌, ◌∙◌, List, Option, IfOk, IfSome, if◌then◌else◌, Result, Ok, Err, inl, inr, refl, subst, sym}, specs.{Prelude.{◌≢◌, ◌⊎◌, MatchBool, MatchResult}, Global.Vec, Io.KnownBytes.Keeps}}
+use Rattle.std.{proofs.Common.{ℕ, All, Bool, false, true, ◌&&◌, ◌≡◌, ◌∙◌, List, Option, IfOk, IfSome, Result, Ok, Err, inl, inr, refl, subst, sym}, specs.{Prelude.{◌≢◌, ◌⊎◌, MatchBool, MatchResult}, Global.Vec, Io.KnownBytes.Keeps}}
 use Rattle.tc_text.{specs.Prelude.{Line, TellsAmong}, proofs.Lemmas.Among.among_some}
 use Rattle.tc_answer.specs.{declared.{fault.RunFault.RunFault, outcome.Outcome.Outcome, reply.Answer.Answer}, Prelude.{GivesAnswer, number_of, run_fault_line, IsUnread, IsPrintedRefusal, RefusesChoice, Streams}, Inside.AreReadyAs}
 use Rattle.tc_exec.specs.declared.test_case.Case.{Case}
 use Rattle.tc_step.specs.Prelude.{ScriptView}
 use Rattle.tc_command.specs.declared.task.{Choice.Choice, RunOptions.RunOptions, Task.Task}
-use Rattle.tc_judge.specs.{Prelude.{AreToRun, IsChecked, IsMadeOfInput, IsSilent, RefusesAgainst, RefusesBlocks, IsUnreadIn, history_limit}, Check.NameBlocks, Inside.{block_name, is_picked}}
+use Rattle.tc_judge.specs.{Prelude.{AreToRun, IsChecked, IsMadeOfInput, IsSilent, RefusesAgainst, RefusesBlocks, IsLegalBlock, IsUnreadIn, are_named, counting, history_limit}, Inside.{block_name, is_picked}}
 use Rattle.tc_program.specs.{Explained.{explains, is_of_text, part_of}, Inside.{IsAsked, IsMadeInParts, IsToldOf, WritesTo, notes_of}, Limits.{has_blocks, limit_of}, Made.{Does, IsMade}, Program.{IsCarriedOut, IsDone, IsDoneBy}}
-use Rattle.tc_blocks.specs.{Prelude.{IsInLimit, IsReadIn}, declared.limit.Limit.Limit}
+use Rattle.tc_blocks.specs.{Prelude.{AreEvidence, IsInLimit, IsReadIn}, declared.{block.Block.Block, limit.Limit.Limit}}
 
 -- what comes of an input that is read is what comes of its text
 pub read_does : (task : Task) (input before after : Option (List ℕ)) (text : List ℕ) (r : Result ℕ RunFault) → IsInLimit (limit_of task) text → IfSome input (λ given. text ≡ given)
@@ -73,7 +73,9 @@ parts_refused task input made fault s outcome parts is keeps refusal = carried_o
 -- what is made of a text that is checked, by the choice
 abbrev MadeBy : List ℕ → Result Answer RunFault → Bool → List (List ℕ) → Bool → Type 0
 MadeBy text made l o f =
-    MatchResult made (λ a. IsSilent (IsChecked l (λ b. is_picked o f (block_name b) b.verdict) text) a × NameBlocks l o text) (RefusesBlocks l o text)
+    MatchResult made
+    (λ a. IsSilent (IsChecked l (λ b. is_picked o f (block_name b) b.verdict) text) a × ((all : List Block) → AreEvidence text all → All IsLegalBlock (counting l all) → are_named l o all ≡ true))
+    (RefusesBlocks (All IsLegalBlock) l o text)
 
 -- what is made of an input for one choice is made for another that chooses the same
 pub made_for : (some choice : Choice) (explains : Bool) (input : Option (List ℕ)) (made : Result Answer RunFault) → some.only.items ≡ choice.only.items → some.failed ≡ choice.failed

@@ -8,7 +8,8 @@ use Rattle.tc_command.specs.{Prelude.{IsCasesReading, IsReading}, declared.{read
 use Rattle.tc_report.specs.declared.fault.OutFault.{OutFault}
 use Rattle.tc_run.specs.Prelude.{of_output, IsRun, IsUnwrittenRun}
 use Rattle.tc_step.specs.Prelude.{ScriptView}
-use Rattle.tc_program.specs.{Alone.{IsAnsweredAlone, IsNotBegun}, Answer.{IsAnsweredBy, IsRefused}, Cases.{DoesCases, RefusesCases, WereMade}, Inside.{IsAsked, IsOfCases, list_text}, Program.IsDoneBy}
+use Rattle.tc_blocks.specs.Prelude.{IsInLimit}
+use Rattle.tc_program.specs.{Alone.IsAnsweredAlone, Answer.{IsAnsweredBy, IsRefused}, Cases.{DoesCases, RefusesCases, WereMade}, Inside.{IsAsked, IsOfCases, list_text}, Limits.limit_of, Program.IsDoneBy}
 
 -- what such arguments ask for is a run or a list
 pub of_cases : (words : List (List ℕ)) (task : Task) → IsCasesReading words (Ok task) → IsOfCases task
@@ -32,7 +33,13 @@ pub not_begun : (words : List (List ℕ)) (task : Task) (input : Option (List �
     → IsPrintedRefusal s.untold s.told (said (codes "a run needs threads, and there are none here: try explore")) outcome → IsAnsweredAlone words input s Unread Unwritten outcome
 not_begun words task input o ready s Unread Unwritten outcome reads asked keeps refusal =
     let read = asked.1 in
-    inr (task, reads, (read.0, read.1, read.2, subst (λ t. IsNotBegun t read.0 s outcome) (sym asked.0) ((read.3.cases, read.3.chosen), keeps, refusal)))
+    inr (
+      o,
+      subst (λ t. IsReading false words (Ok t)) asked.0 reads,
+      (read.0, subst (λ t. IsInLimit (limit_of t) read.0) asked.0 read.1, read.2, (read.3.cases, read.3.chosen)),
+      keeps,
+      refusal,
+    )
 
 module _ (Reads : Result Task Refused → Type 0) (Does : Task → Type 0) (s : Streams) (Unwritten : Type 0) (outcome : Outcome) where
   -- arguments that are a task are answered if it is done

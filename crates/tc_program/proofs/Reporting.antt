@@ -2,9 +2,9 @@
 use Rattle.std.{proofs.{Common.{ℕ, ◌≡◌, ◌≢◌, ◌∙◌, All, Bool, false, List, [], ◌∷◌, if◌then◌else◌, filter, map, refl, ap, subst}, lemmas.List.{Elements.{All-head, All-tail}, append-nil}}, specs.List.flat_map}
 use Rattle.tc_blocks.specs.{declared.{block.Block.Block, header.Kind.Kind}}
 use Rattle.tc_command.specs.declared.task.{Choice.Choice, ReportForm.ReportForm}
-use Rattle.tc_report.{specs.{declared.results.{Finished.Finished, Results.Results}, Prelude.{block_summary, blocks_text, written_summary}}, proofs.Lemmas.Telling.one_same}
+use Rattle.tc_report.{specs.{declared.{results.{Finished.Finished, Results.Results}, summary.Summary.Summary}, Prelude.{block_summary, blocks_text, written_summary}}, proofs.Lemmas.Telling.one_same}
 use Rattle.tc_answer.specs.declared.{fault.RunFault.RunFault, reply.Answer.Answer}
-use Rattle.tc_judge.{specs.{Prelude.{IsChecked, RefusesBlocks, ChoosesEach, counting, is_chosen, AnswersCases}, Inside.{block_name, each, is_picked}, Report.{IsReport, body_of}}, proofs.Lemmas.{answer_of, none_illegal}}
+use Rattle.tc_judge.{specs.{Prelude.{IsChecked, IsLegalBlock, RefusesBlocks, ChoosesEach, counting, is_chosen, AnswersCases}, Inside.{block_name, each, is_picked}, Report.{IsForm, IsReport}}, proofs.Lemmas.{answer_of, none_illegal}}
 use Rattle.tc_program.{specs.{Inside.{WasRun, WereRun, legal_case}, WrittenHistories.AreFoundLegal}, proofs.WrittenHistories.{after, are_right, block_of, blocks_of, evidence_of, said_of_written}}
 
 -- all blocks are picked
@@ -30,10 +30,13 @@ summaries_written kind line (f ∷ fs) all =
     let rest = summaries_written kind (after kind line f) fs (All-tail (WasRun kind) f fs all) in
     ap (λ s. s ∷ map block_summary (blocks_of kind (after kind line f) fs)) first ∙ ap (λ l. written_summary kind f ∷ l) rest
 
--- each form but the text report is made of the text of all blocks
-whole_body : (form : ReportForm) (text : List ℕ) (chosen : List Block) → form ≢ ReportForm.Text → body_of form text chosen ≡ text
-whole_body ReportForm.Text text chosen other = absurd (other refl)
-whole_body form text chosen other = refl
+-- each form but the text report is made of no chosen blocks
+whole_form : (form : ReportForm) (text : List ℕ) (chosen : List Block) (ss : List Summary) (out : List ℕ) → form ≢ ReportForm.Text → IsForm form text chosen ss out → IsForm form text [] ss out
+whole_form ReportForm.Text text chosen ss out other is = absurd (other refl)
+whole_form ReportForm.Csv text chosen ss out other is = is
+whole_form (ReportForm.Junit suite) text chosen ss out other is = is
+whole_form ReportForm.Html text chosen ss out other is = is
+whole_form ReportForm.Summary text chosen ss out other is = is
 
 module _ (kind : Kind) (r : Results) (ran : WereRun kind r) where
   checked_so : (a : Answer) → IsChecked false each (blocks_text kind r) a.out a.status → a.told ≡ [] → a ≡ answer_of (flat_map legal_case r.finished) [] 0
@@ -45,19 +48,19 @@ module _ (kind : Kind) (r : Results) (ran : WereRun kind r) where
 
   -- the report of what a run wrote: none of it is illegal
   reported_so : (form : ReportForm) (a : Answer) → form ≢ ReportForm.Text → IsReport form (blocks_text kind r) (blocks_of kind 1 r.finished) (filter each (blocks_of kind 1 r.finished)) [] [] a
-      → AnswersCases form (blocks_text kind r) [] (map (written_summary kind) r.finished) a
+      → AnswersCases form (blocks_text kind r) [] [] (map (written_summary kind) r.finished) a
   reported_so form a other (IsReport.legal legal is) =
       let blocks = blocks_of kind 1 r.finished in
-      subst (λ t. AnswersCases form t [] (map (written_summary kind) r.finished) a) (whole_body form (blocks_text kind r) (filter each blocks) other)
-      (subst (λ l. AnswersCases form (body_of form (blocks_text kind r) (filter each blocks)) [] l a)
-      (append-nil (map block_summary (filter each blocks)) ∙ (ap (map block_summary) (filter_each blocks) ∙ summaries_written kind 1 r.finished ran.each)) is)
+      let made = subst (λ l. AnswersCases form (blocks_text kind r) (filter each blocks) [] l a)
+      (append-nil (map block_summary (filter each blocks)) ∙ (ap (map block_summary) (filter_each blocks) ∙ summaries_written kind 1 r.finished ran.each)) is in
+      (whole_form form (blocks_text kind r) (filter each blocks) (map (written_summary kind) r.finished) a.out other made.0, made.1, made.2)
   reported_so form a other (IsReport.illegal line first is) =
       absurd (none_illegal (blocks_of kind 1 r.finished) line (are_right kind 1 r.finished ran.each) first)
 
-  refused_so : (fault : RunFault) → RefusesBlocks false [] (blocks_text kind r) fault → fault ≡ RunFault.NoMemory
+  refused_so : (fault : RunFault) → RefusesBlocks (All IsLegalBlock) false [] (blocks_text kind r) fault → fault ≡ RunFault.NoMemory
   refused_so (RunFault.Text fault) refused = absurd (refused.1 (blocks_of kind 1 r.finished) (evidence_of kind r ran))
   refused_so RunFault.NoMemory refused = refl
-  refused_so RunFault.Only refused = let no = refused.3 in absurd cc
+  refused_so RunFault.Only refused = let no = (refused.holds (blocks_of kind 1 r.finished) (evidence_of kind r ran)).1 in absurd cc
   refused_so fault refused = absurd refused
 
   -- what `check` and `report` make of it

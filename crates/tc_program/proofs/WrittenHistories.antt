@@ -4,7 +4,7 @@ use Rattle.tc_rules.specs.Prelude.{IsName, Entry, IsLegal, overall, IsOneHistory
 use Rattle.tc_blocks.{specs.{Prelude.{AreEntries, is_about, is_met, AreBlocks, AreEvidence, AreLines, IsHeader, block_lines, format_of, text_of_block}, declared.{block.Block.Block, header.Kind.Kind, line.Line.Line}}, proofs.Lemmas.WrittenEvidence.written_evidence}
 use Rattle.tc_report.{specs.{Inside.{case_lines, finished_header, namings}, declared.results.{Finished.Finished, Results.Results}, Prelude.{blocks_text, case_block}}, proofs.Lemmas.Telling.entries_written}
 use Rattle.tc_campaign.specs.{Prelude.Outline, Inside.IsReported}
-use Rattle.tc_judge.{specs.{Check.{AreAllLegal, Checks, IsLegalBlock}, Inside.each, Prelude.legal_line}, proofs.Lemmas.{block_line, only_legal}}
+use Rattle.tc_judge.{specs.{Check.{Checks, IsLegalBlock}, Inside.each, Prelude.legal_line}, proofs.Lemmas.{block_line, only_legal}}
 use Rattle.tc_program.specs.{Inside.{FitsItsTypes, WasRun, WereRun, legal_case}, WrittenHistories.AreReported}
 
 -- the block of a finished test case, which begins in this line
@@ -50,7 +50,7 @@ right_of kind line f ran =
       verdict = ran.report.verdict ∙ ap (λ (es : List Entry). overall (reverse es)) same;
     }
 
-pub are_right : (kind : Kind) (line : ℕ) (fs : List Finished) → All (WasRun kind) fs → AreAllLegal (blocks_of kind line fs)
+pub are_right : (kind : Kind) (line : ℕ) (fs : List Finished) → All (WasRun kind) fs → All IsLegalBlock (blocks_of kind line fs)
 are_right kind line [] all = All-nil IsLegalBlock
 are_right kind line (f ∷ fs) all =
     All-cons IsLegalBlock (block_of kind line f) (blocks_of kind (after kind line f) fs) (right_of kind line f (All-head (WasRun kind) f fs all))

@@ -1,5 +1,5 @@
 -- What `explore` writes: the overall verdicts that were found of each test case of a script, or the histories that witness them.
-use Rattle.std.specs.{Prelude.{MatchBool, ℕ, ◌≡◌, ◌==◌, ◌≤◌, if◌then◌else◌, Bool, List, [], ◌++◌, length, map, take}, List.{AllZip, flat_map, list_any}}
+use Rattle.std.specs.{Prelude.{MatchBool, ℕ, ◌≡◌, ◌≤◌, if◌then◌else◌, List, [], ◌++◌, fold, length, map, max, take}, List.{AllZip, flat_map}}
 use Rattle.tc_command.specs.declared.task.ExploreOptions.{ExploreOptions}
 use Rattle.tc_reader.specs.Prelude.{CampaignView}
 use Rattle.tc_blocks.specs.declared.header.Kind.{Kind}
@@ -61,20 +61,12 @@ explored_text o e =
     else if o.evidence then witness_blocks Kind.Evidence (take e.behaviours e.names) e
     else explored_line e.name e.explored ++ e.details
 
--- some test case has this status
-abbrev pub has_status : ℕ → List ExploredCase → Bool
-has_status status explored = list_any (λ e. explored_status e.explored == status) explored
-
--- the status of test cases: 3 if a search did not come to its end, otherwise 2 if some test case has no verdict but error,
--- otherwise 1 if some has more verdicts than one
-abbrev pub status_of_all : List ExploredCase → ℕ
-status_of_all explored = if has_status 3 explored then 3 else if has_status 2 explored then 2 else if has_status 1 explored then 1 else 0
-
--- the test cases that are asked for were explored so, and this is what is written of them, with their status
+-- The test cases that are asked for were explored so, and this is what is written of them. The status is the greatest of theirs: 3 if a
+-- search did not come to its end, otherwise 2 if some has no verdict but error, otherwise 1 if some has several.
 pub record Explores (o : ExploreOptions) (text out : List ℕ) (status : ℕ) : Type 0 where
   pub cases : CampaignView
   pub explored : List ExploredCase
   pub asked : AreToRun o.choice text cases
   pub each : AllZip (IsExplored o) cases explored
   pub out_is : out ≡ flat_map (explored_text o) explored
-  pub status_is : status ≡ status_of_all explored
+  pub status_is : status ≡ fold (λ most e. max most (explored_status e.explored)) 0 explored

@@ -1,7 +1,5 @@
 -- What the functions inside of the program say, which no public clause names.
 use Rattle.std.specs.{Prelude.{ℕ, ◌≡◌, ◌≢◌, ◌&&◌, All, Bool, MatchBool, false, true, filter, Option, Result, Ok, Err, MatchResult, List, [], ◌∷◌, ◌++◌, length, map, reverse}, Io.KnownBytes.{Appends, Keeps}, List.flat_map, Option.option_map_or}
-use Rattle.clap.specs.declared.error.kind.ErrorKind.{ErrorKind}
-use Rattle.clap.specs.declared.error.kind.ErrorKind.TheVariants as Kinds
 use Rattle.tc_explain.specs.Prelude.{explanation}
 use Rattle.tc_rules.specs.Prelude.{IsName, Entry, StandsFor, answer, IsOneHistory, name_of}
 use Rattle.tc_stream.specs.Prelude.{AppendsPrefix}
@@ -10,11 +8,11 @@ use Rattle.tc_step.specs.Prelude.{ScriptView}
 use Rattle.tc_blocks.specs.{Prelude.{AreEntries, AreLines, IsHeader, IsReadIn}, declared.{block.Block.Block, header.Kind.Kind}}
 use Rattle.tc_report.specs.{Inside.{case_lines, finished_header}, declared.results.{Finished.Finished, Results.Results}}
 use Rattle.tc_exec.specs.declared.test_case.Case.{Case}
-use Rattle.tc_answer.specs.{Prelude.{CaseView, held_streams, number_of, run_fault_line}, Inside.{AreReadyAs, IsCaseOf}, declared.{fault.RunFault.RunFault, outcome.Outcome.Outcome, reply.Answer.Answer}}
-use Rattle.tc_judge.specs.Prelude.{AreToRun, IsMadeOfInput, counting, is_chosen, legal_line}
-use Rattle.tc_command.specs.declared.{read.Refused.Refused, task.{Choice.Choice, ExploreOptions.ExploreOptions, RunOptions.RunOptions, Task.Task}}
+use Rattle.tc_answer.specs.{Prelude.{CaseView, number_of, run_fault_line}, Inside.{AreReadyAs, IsCaseOf}, declared.{fault.RunFault.RunFault, reply.Answer.Answer}}
+use Rattle.tc_judge.specs.Prelude.{AreToRun, IsMadeOfInput, are_named, counting, is_chosen, legal_line}
+use Rattle.tc_command.specs.declared.{task.{Choice.Choice, ExploreOptions.ExploreOptions, RunOptions.RunOptions, Task.Task}}
 use Rattle.tc_run.specs.Prelude.{LeavesUnwritten}
-use Rattle.tc_program.specs.{Answer.IsRefused, Explained.{explains, is_of_text, part_of}, Explore.{IsExplored, TellsLocals}, Limits.{has_blocks, limit_of}, Made.IsMade, Model.{AnswersBlocks, are_named}, declared.{explore.ExploredCase.ExploredCase, replaying.Replaying.Replaying}}
+use Rattle.tc_program.specs.{Explained.{explains, is_of_text, part_of}, Explore.{IsExplored, TellsLocals}, Limits.{has_blocks, limit_of}, Made.IsMade, Model.AnswersBlocks, declared.{explore.ExploredCase.ExploredCase, replaying.Replaying.Replaying}}
 
 -- the caller, and the call
 abbrev pub move_of : Entry → Move
@@ -82,8 +80,8 @@ case_line k = k.name ++ (10 ∷ [])
 
 -- this is made of these blocks for their models
 abbrev pub IsMadeOf : Choice → List Block → Result Answer RunFault → Type 0
-IsMadeOf choice all (Ok a) = AnswersBlocks (filter (is_chosen choice) (counting choice.last all)) a × (are_named choice (counting choice.last all) ≡ true)
-IsMadeOf choice all (Err RunFault.Only) = are_named choice (counting choice.last all) ≡ false
+IsMadeOf choice all (Ok a) = AnswersBlocks (filter (is_chosen choice) (counting choice.last all)) a × (are_named choice.last choice.only.items all ≡ true)
+IsMadeOf choice all (Err RunFault.Only) = are_named choice.last choice.only.items all ≡ false
 IsMadeOf choice all (Err RunFault.NoMemory) = Unit {0}
 IsMadeOf choice all (Err fault) = ⊥
 
@@ -103,18 +101,9 @@ IsOfCases (Task.Run o) = Unit {0}
 IsOfCases (Task.List choice explains) = Unit {0}
 IsOfCases task = ⊥
 
--- the arguments are refused, and not because memory ran out; they ask neither for help nor for the version
-abbrev pub IsMistake : ErrorKind → Type 0
-IsMistake kind = (kind ≢ Kinds.DisplayHelp) × (kind ≢ Kinds.DisplayVersion) × (kind ≢ Kinds.OutOfMemory)
-
 -- by this answer some text was written whole; without memory nothing was, if the writer failed a prefix
 abbrev pub ShowsText : Option (List ℕ) → Option (List ℕ) → Result (Unit {0}) RunFault → Type 0
 ShowsText before after answer = (text : List ℕ) × MatchResult answer (λ _. Appends before after text) (LeavesUnwritten before after text)
-
--- what comes of arguments that are refused, by what two writers held before and after: first the output, and then
--- standard error
-abbrev pub ShowsNoTask : {W E : Type 0} → (W → Option (List ℕ)) → W → W → (E → Option (List ℕ)) → E → E → Refused → Outcome → Type 0
-ShowsNoTask contents w w' lines e e' why outcome = IsRefused why (held_streams contents w w' lines e e') (w' ≡ w) outcome
 
 -- this was made of the input for a task, none of whose faults is explained
 abbrev pub IsMadeInParts : Task → Option (List ℕ) → Result Answer RunFault → Type 0

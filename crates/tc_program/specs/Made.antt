@@ -1,12 +1,12 @@
 -- What a task makes of its text, and what a call over a reader and a writer returns.
-use Rattle.std.specs.{Prelude.{ℕ, ◌≡◌, ◌⊎◌, List, [], ◌∷◌, ◌++◌, MatchResult, Option, Some, None, Result, Ok, Err}, Io.KnownBytes.{Appends, Keeps}, List.flat_map}
+use Rattle.std.specs.{Prelude.{ℕ, ◌≡◌, ◌⊎◌, All, List, [], ◌∷◌, ◌++◌, MatchResult, Option, Some, None, Result, Ok, Err}, Io.KnownBytes.{Appends, Keeps}, List.flat_map}
 use Rattle.tc_stream.specs.Prelude.{AppendsPrefix}
 use Rattle.tc_blocks.specs.Prelude.{IsReadIn}
 use Rattle.tc_text.specs.Prelude.{IsListFault}
 use Rattle.tc_command.specs.declared.task.Task.{Task}
 use Rattle.tc_answer.specs.{declared.{fault.RunFault.RunFault, reply.Answer.Answer}, Prelude.{RefusesText, CaseView}}
-use Rattle.tc_judge.specs.Prelude.{AreToRun, IsChecked, IsCheckedAgainst, IsMadeOfBlocks, IsReported, IsReportedAgainst, IsSilent, IsUnreadIn, RefusesAgainst, RefusesRun, is_chosen}
-use Rattle.tc_program.specs.{Explore.Explores, Limits.limit_of, Model.{IsModelled, RefusesModel}, Replay.Replays}
+use Rattle.tc_judge.specs.Prelude.{AreToRun, IsChecked, IsCheckedAgainst, IsLegalBlock, IsMadeOfBlocks, IsReported, IsReportedAgainst, IsSilent, IsUnreadIn, RefusesAgainst, RefusesRun, is_chosen}
+use Rattle.tc_program.specs.{Explore.Explores, Limits.limit_of, Model.IsModelled, Replay.Replays}
 
 -- the answer is the list of the test cases that would be run: a line with the name of each
 abbrev pub IsListed : {C : Type 0} → (C → List ℕ) → (List C → Type 0) → Answer → Type 0
@@ -16,11 +16,11 @@ IsListed {C} name_of AreToBeRun a = (cases : List C) × AreToBeRun cases × (a �
 -- text if memory runs out
 abbrev pub IsMade : Task → List ℕ → Result Answer RunFault → Type 0
 IsMade (Task.Replay e) text made = MatchResult made (IsSilent (Replays text)) (RefusesText (IsListFault text))
-IsMade (Task.Check choice e) text made = IsMadeOfBlocks choice text (IsSilent (IsChecked choice.last (is_chosen choice) text)) made
+IsMade (Task.Check choice e) text made = IsMadeOfBlocks (All IsLegalBlock) choice text (IsSilent (IsChecked choice.last (is_chosen choice) text)) made
 IsMade (Task.Compare None choice e) text made = MatchResult made (IsSilent (IsCheckedAgainst choice text)) (RefusesAgainst choice text)
 IsMade (Task.Compare (Some form) choice e) text made = MatchResult made (IsReportedAgainst form choice text) (RefusesAgainst choice text)
-IsMade (Task.Report form choice e) text made = IsMadeOfBlocks choice text (IsReported form choice.last (is_chosen choice) text) made
-IsMade (Task.Model choice e) text made = MatchResult made (IsModelled choice text) (RefusesModel choice text)
+IsMade (Task.Report form choice e) text made = IsMadeOfBlocks (All IsLegalBlock) choice text (IsReported form choice.last (is_chosen choice) text) made
+IsMade (Task.Model choice e) text made = IsModelled choice text made
 IsMade (Task.Explore o) text made = MatchResult made (IsSilent (Explores o text)) (RefusesRun o.choice text)
 IsMade (Task.List choice e) text made = MatchResult made (IsListed (λ (c : CaseView). c.0) (AreToRun choice text)) (RefusesRun choice text)
 IsMade (Task.Run o) text made = MatchResult made (λ a. ⊥) (RefusesRun o.choice text)

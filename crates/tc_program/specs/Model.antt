@@ -1,10 +1,10 @@
 -- What `model` makes of histories and evidence.
-use Rattle.std.specs.Prelude.{ℕ, ◌≡◌, ◌≤◌, ◌==◌, Bool, false, true, if◌then◌else◌, List, filter, length, map}
+use Rattle.std.specs.Prelude.{ℕ, ◌≡◌, ◌≤◌, ◌==◌, if◌then◌else◌, List, Result, filter, length, map}
 use Rattle.std.specs.List.{flat_map}
 use Rattle.tc_blocks.specs.{declared.block.Block.Block, Prelude.HoldsOfBlocks}
 use Rattle.tc_command.specs.declared.task.Choice.{Choice}
-use Rattle.tc_answer.specs.{Prelude.have_names, declared.{fault.RunFault.RunFault, limits.TheConstants.SCRIPT_LIMIT, reply.Answer.Answer}}
-use Rattle.tc_judge.specs.Prelude.{RefusesHistory, counting, is_chosen}
+use Rattle.tc_answer.specs.declared.{fault.RunFault.RunFault, limits.TheConstants.SCRIPT_LIMIT, reply.Answer.Answer}
+use Rattle.tc_judge.specs.Prelude.{IsMadeOfBlocks, counting, is_chosen}
 use Rattle.tc_model.specs.{Prelude.{AreAttempts, AreModels, attempt_note, written}, declared.models.Attempt.Attempt}
 
 -- Of these blocks those that have a model are written as a script, which is not too long to be read. Of each other is said which line no
@@ -18,16 +18,8 @@ pub record AnswersBlocks (blocks : List Block) (a : Answer) : Type 0 where
   pub told : a.told ≡ flat_map attempt_note attempts
   pub status : a.status ≡ (if length (flat_map attempt_note attempts) == 0 then 0 else 3)
 
--- each pattern of the choice matches the name of one of these blocks
-abbrev pub are_named : Choice → List Block → Bool
-are_named choice blocks = have_names (λ b. b.header.name) choice.only.items blocks
-
--- of the blocks of the text that count the chosen are answered, and each pattern matches the name of one
-abbrev pub IsModelled : Choice → List ℕ → Answer → Type 0
-IsModelled choice text a = HoldsOfBlocks text (λ all.
-    AnswersBlocks (filter (is_chosen choice) (counting choice.last all)) a × (are_named choice (counting choice.last all) ≡ true))
-
--- the text is refused as one of histories and evidence; or some pattern matches the name of no block that counts
-abbrev pub RefusesModel : Choice → List ℕ → RunFault → Type 0
-RefusesModel choice text RunFault.Only = HoldsOfBlocks text (λ all. are_named choice (counting choice.last all) ≡ false)
-RefusesModel choice text fault = RefusesHistory text fault
+-- of the blocks of the text that count the chosen are answered, and each pattern of the choice matches the name of one that counts; or
+-- the text is refused, or a pattern
+abbrev pub IsModelled : Choice → List ℕ → Result Answer RunFault → Type 0
+IsModelled choice text = IsMadeOfBlocks (λ blocks. Unit {0}) choice text
+    (λ a. HoldsOfBlocks text (λ all. AnswersBlocks (filter (is_chosen choice) (counting choice.last all)) a))

@@ -7,7 +7,7 @@ use Rattle.tc_campaign.specs.Prelude.{Outline}
 use Rattle.tc_exec.specs.Prelude.{IsCaseReport}
 use Rattle.tc_command.specs.declared.task.{Choice.Choice, ReportForm.ReportForm, Task.Task}
 use Rattle.tc_answer.specs.declared.{fault.RunFault.RunFault, reply.Answer.Answer}
-use Rattle.tc_judge.specs.Prelude.{AnswersCases, ChoosesEach, RefusesBlocks, legal_line}
+use Rattle.tc_judge.specs.Prelude.{AnswersCases, ChoosesEach, IsLegalBlock, RefusesBlocks, legal_line}
 use Rattle.tc_program.specs.Made.{IsMade}
 
 -- what `run_campaign` says of its results, if some test case is finished: each finished one has the report of its case,
@@ -23,5 +23,5 @@ pub record AreFoundLegal (kind : Kind) (text : List ℕ) (r : Results) : Type 0 
   pub checked_so : (choice : Choice) (explains : Bool) (a : Answer) → ChoosesEach choice → IsMade (Task.Check choice explains) text (Ok a)
       → a ≡ record { out = flat_map (λ f. legal_line f.name (length f.report.history) f.report.verdict) r.finished; told = []; status = 0 }
   pub reported_so : (form : ReportForm) (choice : Choice) (explains : Bool) (a : Answer) → form ≢ ReportForm.Text → ChoosesEach choice
-      → IsMade (Task.Report form choice explains) text (Ok a) → AnswersCases form text [] (map (written_summary kind) r.finished) a
-  pub refused_so : (fault : RunFault) → RefusesBlocks false [] text fault → fault ≡ RunFault.NoMemory
+      → IsMade (Task.Report form choice explains) text (Ok a) → AnswersCases form text [] [] (map (written_summary kind) r.finished) a
+  pub refused_so : (fault : RunFault) → RefusesBlocks (All IsLegalBlock) false [] text fault → fault ≡ RunFault.NoMemory

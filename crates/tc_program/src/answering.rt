@@ -1,11 +1,9 @@
 //! What the program does with its arguments.
-ghost use Rattle.std.specs.Prelude.{◌≡◌, IfOk, IfErr, OnErr, List, ℕ, map, string_bytes};
+ghost use Rattle.std.specs.Prelude.{◌≡◌, IfOk, IfErr, OnErr, map, string_bytes};
 ghost use Rattle.std.specs.IoError.{error_kind};
 ghost use Rattle.clap.specs.Values.{kind_of};
-ghost use Rattle.clap.specs.declared.error.kind.ErrorKind.TheVariants.{DisplayHelp, DisplayVersion, OutOfMemory};
-ghost use Rattle.tc_answer.specs.Prelude.{run_fault_line, IsPrintedRefusal, held_streams};
-ghost use Rattle.tc_answer.specs.declared.fault.RunFault.TheVariants.{NoMemory as WithoutMemory};
-ghost use Rattle.tc_program.specs.{Alone.IsAnsweredAlone, Answer.AnswersWords, Answer.IsHelped, Answer.IsUnreadInput, Inside.IsMistake, Inside.ShowsNoTask, Inside.ShowsText};
+ghost use Rattle.tc_answer.specs.Prelude.{held_streams};
+ghost use Rattle.tc_program.specs.{Alone.IsAnsweredAlone, Answer.AnswersWords, Answer.IsNoTask, Answer.IsRefused, Answer.IsUnreadInput, Inside.ShowsText};
 
 use crate::carrying_out::{begin, carry_out};
 use clap::Error;
@@ -46,15 +44,8 @@ fn answer_no_task<W: Write, E: Write>(
     writer: &mut W,
     errors: &mut E,
 ) -> Outcome
-    ensures help { kind_of error.now ≡ DisplayHelp
-        → IsHelped (held_streams W.contents writer.old writer.new E.contents errors.old errors.new) result }
-    ensures version { kind_of error.now ≡ DisplayVersion
-        → IsHelped (held_streams W.contents writer.old writer.new E.contents errors.old errors.new) result }
-    ensures refused { IsMistake (kind_of error.now) → (text : List ℕ) × IsPrintedRefusal (E.contents errors.old) (E.contents errors.new) text result }
-    ensures memory { kind_of error.now ≡ OutOfMemory
-        → IsPrintedRefusal (E.contents errors.old) (E.contents errors.new) (run_fault_line WithoutMemory) result }
-    ensures unwritten { IsMistake (kind_of error.now) → writer.new ≡ writer.old }
-    ensures wordless { kind_of error.now ≡ OutOfMemory → writer.new ≡ writer.old }
+    ensures { IsNoTask (kind_of error.now) (held_streams W.contents writer.old writer.new E.contents errors.old errors.new)
+        (writer.new ≡ writer.old) result }
 {
     if error.kind() == ErrorKind::OutOfMemory {
         return refuse(alloc, errors, RunFault::NoMemory);
@@ -71,14 +62,15 @@ fn answer_no_task<W: Write, E: Write>(
     }
 }
 
-/// The outcome of arguments that are refused, as one fact.
+/// The outcome of arguments that are refused.
 pub(crate) fn answer_refused<W: Write, E: Write>(
     alloc: Global,
     refused: &Refused,
     writer: &mut W,
     errors: &mut E,
 ) -> Outcome
-    ensures shown { ShowsNoTask W.contents writer.old writer.new E.contents errors.old errors.new refused.now result }
+    ensures { IsRefused refused.now (held_streams W.contents writer.old writer.new E.contents errors.old errors.new)
+        (writer.new ≡ writer.old) result }
 {
     match refused {
         Refused::Line(error) => answer_no_task(alloc, error, writer, errors),

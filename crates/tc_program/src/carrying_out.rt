@@ -87,7 +87,8 @@ fn made_in_parts<I: Read>(
     task: &Task,
     reader: &mut I,
 ) -> Option<Result<Answer, RunFault>>
-    ensures { MatchOption result ((reader.new ≡ reader.old) × (is_whole (limit_of task.now) ≡ true)) (IsMadeInParts task.now (I.remaining reader.old)) }
+    ensures { MatchOption result ((reader.new ≡ reader.old) × (is_whole (limit_of task.now) ≡ true))
+        (IsMadeInParts task.now (I.remaining reader.old)) }
 {
     if explains(task) {
         return None;
@@ -110,28 +111,6 @@ fn made_in_parts<I: Read>(
     }
 }
 
-// Does what the task asks for with its input, which is read whole first, or returns the test cases that it asks to run.
-fn do_input<'t, I: Read, W: Write, E: Write>(
-    alloc: Global,
-    task: &'t Task,
-    reader: &mut I,
-    writer: &mut W,
-    errors: &mut E,
-) -> Result<(&'t RunOptions, Vec<Case<Script>>), Outcome>
-    requires other { task.now ≢ Serve }
-    requires kept { is_whole (limit_of task.now) ≡ true }
-    ensures done { IfErr result (IsCarriedOut task.now (I.remaining reader.old)
-        (held_streams W.contents writer.old writer.new E.contents errors.old errors.new)) }
-    ensures asked { IfOk result (λ r. IsAsked task.now (I.remaining reader.old) r.0.now r.1.items) }
-    ensures unwritten { OnOk result (writer.new ≡ writer.old) }
-    ensures untold { OnOk result (errors.new ≡ errors.old) }
-{
-    match read_text(alloc, reader, text_limit(task)) {
-        Ok(text) => do_text(alloc, task, text.as_slice(), writer, errors),
-        Err(fault) => Err(refuse(alloc, errors, fault)),
-    }
-}
-
 /// Does what the task asks for with its input, or returns the test cases that it asks to run.
 pub(crate) fn begin<'t, I: Read, W: Write, E: Write>(
     alloc: Global,
@@ -150,9 +129,13 @@ pub(crate) fn begin<'t, I: Read, W: Write, E: Write>(
         return Err(serve_input(alloc, reader, writer, errors));
     }
     match made_in_parts(alloc, task, reader) {
-        Some(Ok(answer)) => Err(give_answer(alloc, &answer, writer, errors)),
-        Some(Err(fault)) => Err(refuse(alloc, errors, fault)),
-        None => do_input(alloc, task, reader, writer, errors),
+        Some(Ok(answer)) => return Err(give_answer(alloc, &answer, writer, errors)),
+        Some(Err(fault)) => return Err(refuse(alloc, errors, fault)),
+        None => {}
+    }
+    match read_text(alloc, reader, text_limit(task)) {
+        Ok(text) => do_text(alloc, task, text.as_slice(), writer, errors),
+        Err(fault) => Err(refuse(alloc, errors, fault)),
     }
 }
 

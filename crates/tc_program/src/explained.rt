@@ -1,6 +1,5 @@
 //! What is printed about a text that is refused.
 ghost use Rattle.std.specs.Prelude.{◌≡◌, [], IfOk, OnOk};
-ghost use Rattle.std.specs.Option.{option_map};
 ghost use Rattle.tc_explain.specs.Prelude.{explanation};
 ghost use Rattle.tc_text.specs.Prelude.{TellsAmong};
 ghost use Rattle.tc_answer.specs.Prelude.{number_of};
@@ -11,8 +10,8 @@ use crate::unknown::{append_unknown, names_of_blocks, names_of_script};
 use std::alloc::Global;
 use std::io::Write;
 use tc_answer::{Outcome, RunFault, fault_line, refuse_with, split_script};
-use tc_command::{Choice, Task};
-use tc_entry::{Name, NoMemory, Pattern};
+use tc_command::{ExploreOptions, RunOptions, Task};
+use tc_entry::NoMemory;
 use tc_explain::{Refusal, explain};
 use tc_text::{TextFault, TextKind};
 
@@ -63,17 +62,6 @@ fn part_of<'a>(task: &Task, fault: RunFault, text: &'a [u8]) -> &'a [u8]
     }
 }
 
-// What the fault says of the text of the task, and the number of its line, if it is one of a line.
-fn refusal_at(task: &Task, fault: RunFault) -> Option<(Refusal, usize)>
-    ensures { option_map (λ r. r.1) result ≡ number_of fault }
-{
-    match fault {
-        RunFault::Text(TextFault::At { line, kind }) => { Some((refusal_by(task, kind), line)) }
-        RunFault::Script(fault) => Some((Refusal::Script(fault.kind), fault.line)),
-        _ => None,
-    }
-}
-
 // Appends what is explained of the text, the fault of which is of this kind and in this line.
 fn append_notes(
     alloc: Global,
@@ -89,84 +77,37 @@ fn append_notes(
     Ok(())
 }
 
-// Appends what is explained of the text, if something is.
+// Appends which value of `--only` matches no name that the task chooses among: those of the blocks, or of the test cases of
+// the script.
 #[tactic(auto, using(tc_text::proofs::Lemmas::Among::among_none))]
-fn append_explained(
-    alloc: Global,
-    out: &mut Vec<u8>,
-    text: &[u8],
-    refused: Option<(Refusal, usize)>,
-) -> Result<(), NoMemory>
-    ensures { OnOk result (TellsAmong (notes_of (option_map (λ r. r.1) refused) text.now) out.old.items out.new.items) }
-{
-    match refused {
-        Some((refusal, line)) => append_notes(alloc, out, text, line, refusal),
-        None => Ok(()),
-    }
-}
-
-// What the task is asked to choose, if it may be asked.
-fn choice_of(task: &Task) -> Option<&Choice> {
-    match task {
-        Task::Check { choice, .. }
-        | Task::Report { choice, .. }
-        | Task::Model { choice, .. }
-        | Task::Compare { choice, .. }
-        | Task::List { choice, .. } => Some(choice),
-        Task::Run(options) => Some(&options.choice),
-        Task::Explore(options) => Some(&options.choice),
-        Task::Replay { .. } | Task::Serve => None,
-    }
-}
-
-// The names that the task chooses among: those of the blocks, or of the test cases of the script.
-fn names_in(alloc: Global, task: &Task, text: &[u8]) -> Result<Vec<Name>, RunFault> {
-    match task {
-        Task::Check { .. } | Task::Report { .. } | Task::Model { .. } => {
-            names_of_blocks(alloc, text)
-        }
-        _ if has_blocks(task) => names_of_script(alloc, split_script(text).0),
-        _ => names_of_script(alloc, text),
-    }
-}
-
-// Appends which of the patterns matches no name that the task chooses among.
-fn append_unknown_of(
-    alloc: Global,
-    out: &mut Vec<u8>,
-    task: &Task,
-    text: &[u8],
-    only: &[Pattern],
-) -> Result<(), NoMemory>
+fn append_only(alloc: Global, out: &mut Vec<u8>, task: &Task, text: &[u8]) -> Result<(), NoMemory>
     ensures { OnOk result (TellsAmong [] out.old.items out.new.items) }
 {
-    let Ok(names) = names_in(alloc, task, text) else {
+    let script = if has_blocks(task) {
+        split_script(text).0
+    } else {
+        text
+    };
+    let (choice, names) = match task {
+        Task::Check { choice, .. } | Task::Report { choice, .. } | Task::Model { choice, .. } => {
+            (choice, names_of_blocks(alloc, text))
+        }
+        Task::Compare { choice, .. }
+        | Task::List { choice, .. }
+        | Task::Run(RunOptions { choice, .. })
+        | Task::Explore(ExploreOptions { choice, .. }) => {
+            (choice, names_of_script(alloc, script))
+        }
+        Task::Replay { .. } | Task::Serve => return Ok(()),
+    };
+    let Ok(names) = names else {
         return Err(NoMemory);
     };
-    append_unknown(alloc, out, only, names.as_slice())
-}
-
-// Appends which value of `--only` matches no name, if that is the fault, and is explained.
-#[tactic(auto, using(tc_text::proofs::Lemmas::Among::among_none))]
-fn append_only(
-    alloc: Global,
-    out: &mut Vec<u8>,
-    task: &Task,
-    text: &[u8],
-    fault: RunFault,
-) -> Result<(), NoMemory>
-    ensures { OnOk result (TellsAmong [] out.old.items out.new.items) }
-{
-    match (fault, choice_of(task)) {
-        (RunFault::Only, Some(choice)) => {
-            append_unknown_of(alloc, out, task, text, choice.only.as_slice())
-        }
-        _ => Ok(()),
-    }
+    append_unknown(alloc, out, choice.only.as_slice(), names.as_slice())
 }
 
 // Appends what is explained of the text of the task.
-#[tactic(auto, using(tc_text::proofs::Lemmas::Among::among_more))]
+#[tactic(auto, using(tc_text::proofs::Lemmas::Among::among_none))]
 fn append_why(
     alloc: Global,
     out: &mut Vec<u8>,
@@ -177,13 +118,17 @@ fn append_why(
     ensures { OnOk result (TellsAmong (notes_of (number_of fault) (spec_part_of (spec_blocks task.now) fault text.now))
         out.old.items out.new.items) }
 {
-    append_explained(
-        alloc,
-        out,
-        part_of(task, fault, text),
-        refusal_at(task, fault),
-    )?;
-    append_only(alloc, out, task, text, fault)
+    let part = part_of(task, fault, text);
+    match fault {
+        RunFault::Text(TextFault::At { line, kind }) => {
+            append_notes(alloc, out, part, line, refusal_by(task, kind))
+        }
+        RunFault::Script(fault) => {
+            append_notes(alloc, out, part, fault.line, Refusal::Script(fault.kind))
+        }
+        RunFault::Only => append_only(alloc, out, task, text),
+        _ => Ok(()),
+    }
 }
 
 // Whether the fault is one of the text.

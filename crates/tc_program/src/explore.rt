@@ -1,12 +1,12 @@
 //! The subcommand `explore`.
-ghost use Rattle.std.specs.Prelude.{◌≡◌, ◌≤◌, ◌++◌, [], All, IfOk, IfErr, OnOk, if◌then◌else◌, length};
+ghost use Rattle.std.specs.Prelude.{◌≡◌, ◌≤◌, ◌++◌, [], All, IfOk, IfErr, OnOk, fold, length, max};
 ghost use Rattle.std.specs.List.{AllZip, flat_map};
 ghost use Rattle.tc_entry.specs.declared.limits.TheConstants.{BEHAVIOURS};
 ghost use Rattle.tc_course.specs.Prelude.{AreLegal};
-ghost use Rattle.tc_explored.specs.Prelude.{details as of_details};
+ghost use Rattle.tc_explored.specs.Prelude.{explored_status as status_in};
 ghost use Rattle.tc_judge.specs.Inside.{HasFewJobs};
 ghost use Rattle.tc_judge.specs.Prelude.{RefusesRun};
-ghost use Rattle.tc_program.specs.{Explore.Explores, Explore.TellsAfter, Explore.explored_text, Explore.witness_blocks, Explore.has_status as status_in, Explore.status_of_all, Inside.IsExploredOf, Inside.TellsLocalsIf};
+ghost use Rattle.tc_program.specs.{Explore.Explores, Explore.TellsAfter, Explore.explored_text, Explore.witness_blocks, Inside.IsExploredOf, Inside.TellsLocalsIf};
 
 use std::alloc::Global;
 use tc_answer::{Answer, RunFault};
@@ -52,25 +52,6 @@ fn append_locals_if(
     Ok(())
 }
 
-// Appends the details of a test case with these names of behaviours and these scripts, if they are asked for.
-fn append_details_if(
-    alloc: Global,
-    out: &mut Vec<u8>,
-    details: bool,
-    names: &[Name],
-    scripts: &[Script],
-    explored: &Explored,
-) -> Result<(), NoMemory>
-    requires few { length scripts.now ≤ BEHAVIOURS }
-    requires legal { AreLegal scripts.now explored.now.found }
-    ensures { OnOk result (out.new.items ≡ out.old.items ++ (if details then of_details names.now scripts.now explored.now else [])) }
-{
-    if details {
-        append_details(alloc, out, names, scripts, explored)?;
-    }
-    Ok(())
-}
-
 // What is printed after the line of a test case with these names of behaviours and these scripts.
 fn details_of(
     alloc: Global,
@@ -85,7 +66,9 @@ fn details_of(
 {
     let mut out = Vec::new(alloc);
     append_locals_if(alloc, &mut out, options.locals, scripts, options.states)?;
-    append_details_if(alloc, &mut out, options.details, names, scripts, explored)?;
+    if options.details {
+        append_details(alloc, &mut out, names, scripts, explored)?;
+    }
     Ok(out)
 }
 
@@ -167,44 +150,27 @@ fn append_case(
     Ok(())
 }
 
-// The text of the test cases, and their status.
+// The text of the test cases.
 fn text_of(
     alloc: Global,
     options: &ExploreOptions,
     explored: &[ExploredCase],
-) -> Result<(Vec<u8>, u8), NoMemory>
-    ensures text { IfOk result (λ r. r.0.items ≡ flat_map (explored_text options.now) explored.now) }
-    ensures status { IfOk result (λ r. r.1 ≡ status_of_all explored.now) }
+) -> Result<Vec<u8>, NoMemory>
+    ensures { IfOk result (λ v. v.items ≡ flat_map (explored_text options.now) explored.now) }
 {
     let mut out = Vec::new(alloc);
     for case in explored {
         append_case(alloc, &mut out, options, case)?;
     }
-    Ok((out, status_of(explored)))
+    Ok(out)
 }
 
-// Whether some test case has this status.
-fn has_status(explored: &[ExploredCase], status: u8) -> bool
-    ensures { result ≡ status_in status explored.now }
-{
-    explored
-        .iter()
-        .any(|case| explored_status(&case.explored) == status)
-}
-
-// The status of the test cases.
+// The greatest status of the test cases.
 fn status_of(explored: &[ExploredCase]) -> u8
-    ensures { result ≡ status_of_all explored.now }
+    ensures { result ≡ fold (λ most e. max most (status_in e.explored)) 0 explored.now }
 {
-    if has_status(explored, 3) {
-        3
-    } else if has_status(explored, 2) {
-        2
-    } else if has_status(explored, 1) {
-        1
-    } else {
-        0
-    }
+    let statuses = explored.iter().map(|case| explored_status(&case.explored));
+    statuses.max().unwrap_or(0)
 }
 
 /// What `explore` makes of a script: what was found of each test case that is asked for, and the status. That is 3 if a
@@ -220,6 +186,6 @@ pub(crate) fn explore_text(
 {
     let cases = cases_to_run(alloc, text, &options.choice)?;
     let explored = explore_cases(alloc, cases, options)?;
-    let (out, status) = text_of(alloc, options, explored.as_slice())?;
-    Ok(Answer::silent(alloc, out, status))
+    let out = text_of(alloc, options, explored.as_slice())?;
+    Ok(Answer::silent(alloc, out, status_of(explored.as_slice())))
 }

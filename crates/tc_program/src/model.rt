@@ -1,8 +1,8 @@
 //! The subcommand `model`.
-ghost use Rattle.std.specs.Prelude.{◌≡◌, ◌<◌, IfOk, MatchResult, filter};
+ghost use Rattle.std.specs.Prelude.{◌≡◌, ◌<◌, IfOk, filter};
 ghost use Rattle.tc_judge.specs.Prelude.{IsMadeOfInput, history_limit, is_chosen};
 ghost use Rattle.tc_blocks.specs.Prelude.{most_of};
-ghost use Rattle.tc_program.specs.{Inside.IsMadeOf, Model.AnswersBlocks, Model.IsModelled, Model.RefusesModel};
+ghost use Rattle.tc_program.specs.{Inside.IsMadeOf, Model.AnswersBlocks, Model.IsModelled};
 
 use std::alloc::Global;
 use std::io::Read;
@@ -53,7 +53,7 @@ fn model_blocks(alloc: Global, choice: &Choice, blocks: Sequence<Block>) -> Resu
 /// What `model` makes of a text of histories and evidence.
 #[tactic(auto, using(crate::proofs::Modelling::modelled_text))]
 pub(crate) fn model_text(alloc: Global, choice: &Choice, text: &[u8]) -> Result<Answer, RunFault>
-    ensures { MatchResult result (IsModelled choice.now text.now) (RefusesModel choice.now text.now) }
+    ensures { IsModelled choice.now text.now result }
 {
     match read_evidence(alloc, text) {
         Ok(blocks) => model_blocks(alloc, choice, blocks),
@@ -80,8 +80,7 @@ pub(crate) fn model_input<R: Read>(
     choice: &Choice,
     reader: &mut R,
 ) -> Result<Answer, RunFault>
-    ensures { IsMadeOfInput (history_limit choice.now.long) (R.remaining reader.old)
-        (λ text made. MatchResult made (IsModelled choice.now text) (RefusesModel choice.now text)) result }
+    ensures { IsMadeOfInput (history_limit choice.now.long) (R.remaining reader.old) (IsModelled choice.now) result }
 {
     match read_evidence_from(alloc, reader, limit_of(choice.long)) {
         Ok(Ok(blocks)) => model_blocks(alloc, choice, blocks),

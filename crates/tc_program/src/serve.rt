@@ -1,13 +1,13 @@
 //! The subcommand `serve`.
 ghost use Rattle.std.specs.Prelude.{◌≡◌, IfOk};
-ghost use Rattle.tc_answer.specs.Prelude.{IsPrintedRefusal, held_streams};
-ghost use Rattle.tc_program.specs.Serve.{IsServiceStatus, Serves, service_line as spec_line, service_status as spec_status};
+ghost use Rattle.tc_answer.specs.Prelude.{held_streams};
+ghost use Rattle.tc_program.specs.Serve.{IsServiceStatus, Serves, service_line as spec_line};
 
 use std::alloc::Global;
 use std::io::{Read, Write};
 use tc_answer::{Outcome, REFUSED, RunFault, fault_line, refuse_with};
 use tc_report::verdict_status;
-use tc_serve::{Ending, ServeFault, Served, append_refusal, serve};
+use tc_serve::{Ending, ServeFault, append_refusal, serve};
 use tc_verdict::NoMemory;
 
 // The line of a fault that ended a service.
@@ -25,39 +25,21 @@ fn service_line(alloc: Global, fault: ServeFault) -> Result<Vec<u8>, NoMemory>
     Ok(line)
 }
 
-// The outcome of a service that ended by this fault: its line is printed.
-fn refuse<E: Write>(alloc: Global, errors: &mut E, fault: ServeFault) -> Outcome
-    ensures { IsPrintedRefusal (E.contents errors.old) (E.contents errors.new) (spec_line fault) result }
-{
-    refuse_with(errors, service_line(alloc, fault))
-}
-
-// The status of a service.
-fn service_status(ended: Result<Served, ServeFault>) -> u8
-    ensures { result ≡ spec_status ended }
-{
-    match ended {
-        Ok(served) if !served.refused => verdict_status(served.worst),
-        Ok(_) | Err(_) => REFUSED,
-    }
-}
-
 // The outcome of a service: the line of its fault is printed, if standard error has taken all so far.
 fn settle<E: Write>(alloc: Global, ending: Ending, errors: &mut E) -> Outcome
     ensures { IsServiceStatus ending.told ending.outcome (E.contents errors.old) (E.contents errors.new) result }
 {
-    let status = service_status(ending.outcome);
-    match (ending.told, ending.outcome) {
-        (true, Ok(_)) => Outcome {
-            status,
-            told: Ok(()),
-        },
-        (true, Err(fault)) => refuse(alloc, errors, fault),
-        (false, _) => Outcome {
-            status,
-            told: Err(RunFault::Write),
-        },
-    }
+    let told = if ending.told {
+        Ok(())
+    } else {
+        Err(RunFault::Write)
+    };
+    let status = match ending.outcome {
+        Ok(served) if !served.refused => verdict_status(served.worst),
+        Err(fault) if ending.told => return refuse_with(errors, service_line(alloc, fault)),
+        Ok(_) | Err(_) => REFUSED,
+    };
+    Outcome { status, told }
 }
 
 /// Answers the lines of the input as they come, and says what ended the service.

@@ -19,4 +19,4 @@ returns-in-Err-read_cases_task-clause-had g c =
     of_value _ c.args.words c.in-Ok.words c.in-Ok.is
     (refusal_answered _ _ _ _ _ c.in-Err-read_cases_task.refused
     (subst (λ ws. IsCasesReading (map string_bytes ws) (Err c.in-Err-read_cases_task.refused)) c.as_slice.ensures.value c.in-Err-read_cases_task.ensures)
-    c.answer_refused.ensures.shown)
+    c.answer_refused.ensures)
