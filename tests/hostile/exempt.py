@@ -54,7 +54,7 @@ WITHOUT_ALLOCATOR = ("SlowReader::new", "InputFault::text", "WriteFault::text", 
                      "take_short_move", "take_reply", "Reply::is_ok", "Reply::is_ended", "Reply::is_fault", "ends_case", "ends_pass",
                      "created", "started_on", "is_halting", "keeps_phases", "OutFault::text", "CaseError::text", "CloseFault::text",
                      "verdict_status", "MetRuns::none", "MetRuns::add_refused", "MetRuns::contains", "counts", "is_met", "Everyone::allow",
-                     "has_gone_on", "is_asked", "is_of_judged", "is_picked", "patterns_match", "component", "group", "target", "arguments",
+                     "has_gone_on", "is_asked", "is_of_judged", "is_picked", "limit_of", "patterns_match", "component", "group", "target", "arguments",
                      "read_short_move")
 # These take no memory, and are not made with every growth refused by themselves.
 UNTRIED: Tuple[Exempt, ...] = (

@@ -36,6 +36,7 @@ fn name(text: &str) -> Name
 }
 
 /// A test case of a motor and a judge on this window.
+#[tactic(auto, unfolding(tc_entry::specs::Prelude::is_name))]
 pub(crate) fn case<R: Wait + Copy + Send + 'static>(
     rt: R,
     alloc: Global,

@@ -1,8 +1,8 @@
 -- The words of a line, and what the engine answers, by what the program answers to them.
-use Rattle.std.proofs.{Common.{ℕ, ◌≡◌, ◌∙◌, ◌⊎◌, List, [], All, Option, Some, Result, Ok, Err, IfOk, IfErr, OnErr, inl, inr, refl, subst, ◌++◌, ◌∷◌, ap, sym}, lemmas.{List.Elements.{All-head, All-tail}, Result.IfErr-weaker}}
+use Rattle.std.proofs.{Common.{ℕ, ◌≡◌, ◌∙◌, ◌⊎◌, List, [], All, Option, Some, Result, Ok, Err, IfOk, IfErr, MatchResult, OnErr, inl, inr, refl, subst, ◌++◌, ◌∷◌, ap, sym}, lemmas.List.Elements.{All-head, All-tail}}
 use Rattle.std.specs.{Str.IsUtf8, declared.io.ErrorKind.ErrorKind as IoKind, declared.io.ErrorKind.TheVariants.OutOfMemory}
 use Rattle.clap.specs.declared.error.kind.ErrorKind.{ErrorKind}
-use Rattle.tc_command.specs.declared.read.Refused.{Refused}
+use Rattle.tc_command.specs.declared.{read.Refused.Refused, task.Task.Task}
 use Rattle.tc_program.specs.Prelude.{IsAnsweredAlone, IsNoTask, IsRefused, IsUnreadInput, Streams, Outcome}
 use Rattle.filskeam.specs.Engine.{Answers, line_words, words_from}
 
@@ -13,8 +13,7 @@ streams_of before after untold told = record { before = Some before; after = Som
 module _ {U V : Type 0} (more : U → V) (s : Streams) (outcome : Outcome) where
   no_task : (kind : ErrorKind) → IsNoTask kind s U outcome → IsNoTask kind s V outcome
   no_task kind n = record {
-    help = n.help;
-    version = n.version;
+    shown = n.shown;
     mistake = λ m. ((n.mistake m).0, more (n.mistake m).1);
     memory = λ m. ((n.memory m).0, more (n.memory m).1);
   }
@@ -23,21 +22,16 @@ module _ {U V : Type 0} (more : U → V) (s : Streams) (outcome : Outcome) where
   refused (Refused.Line error) r = no_task _ r
   refused (Refused.Word fault) r = (r.0, more r.1)
 
-on_error : {A E : Type 0} (r : Result A E) (U : Type 0) → OnErr r U → OnErr r (Unit {0})
-on_error (Ok a) U so = tt
-on_error (Err e) U so = tt
+  either : (Unread : Type 0) (Does : Task → Type 0) (r : Result Task Refused) → MatchResult r Does (λ why. IsRefused why s U outcome × Unread)
+      → MatchResult r Does (λ why. IsRefused why s V outcome × Unit {0})
+  either Unread Does (Ok task) does = does
+  either Unread Does (Err why) is = (refused why is.0, tt)
 
 -- what is answered, where less is said of what was not read, and of what was not written
 answered : {U V : Type 0} (Unread : Type 0) (words : List (List ℕ)) (input : Option (List ℕ)) (s : Streams) (outcome : Outcome) → (U → V)
     → IsAnsweredAlone words input s Unread U outcome → IsAnsweredAlone words input s (Unit {0}) V outcome
 answered Unread words input s outcome more (inl a) =
-    inl (record {
-      answer = a.answer;
-      reading = a.reading;
-      task = a.task;
-      no_task = IfErr-weaker a.answer _ _ (λ why r. refused more s outcome why r) a.no_task;
-      unread = on_error a.answer Unread a.unread;
-    })
+    inl (record { answer = a.answer; reading = a.reading; answered = either more s outcome Unread _ a.answer a.answered })
 answered Unread words input s outcome more (inr left) = inr left
 
 module _ {A E : Type 0} (texts : A → List (List ℕ)) (kind : E → IoKind) (line input before after untold told : List ℕ) (Unread Unwritten : Type 0)

@@ -1,12 +1,11 @@
 -- What the functions inside of this crate say, and those of the tasks above it, which no clause of the program names.
-use Rattle.std.specs.{Prelude.{ℕ, ◌≡◌, All, Bool, false, List, ◌++◌, map, codes, filter}, Fmt.decimal, List.AllZip}
+use Rattle.std.specs.{Prelude.{ℕ, ◌≡◌, All, false, List, ◌++◌, map, codes, filter}, Fmt.decimal, List.AllZip}
 use Rattle.tc_reader.specs.Prelude.{Word, has_twice, CampaignView, IsCase}
 use Rattle.tc_stream.specs.declared.input.InputFault.{InputFault}
 use Rattle.tc_text.specs.declared.fault.TextFault.{TextFault}
-use Rattle.tc_command.specs.declared.task.Choice.{Choice}
 use Rattle.tc_step.specs.Prelude.{ScriptView}
 use Rattle.tc_exec.specs.declared.test_case.Case.{Case}
-use Rattle.tc_answer.specs.{Choosing.{AreChosen, CaseView, is_asked, scripts_of}, declared.fault.RunFault.RunFault}
+use Rattle.tc_answer.specs.{Choosing.{CaseView, is_asked, scripts_of}, declared.fault.RunFault.RunFault}
 
 -- the name of a test case of a script
 abbrev pub script_name : CaseView → Word
@@ -27,21 +26,11 @@ abbrev pub of_text : TextFault → RunFault
 of_text (TextFault.At line kind) = RunFault.Text (TextFault.At line kind)
 of_text TextFault.NoMemory = RunFault.NoMemory
 
--- the names of behaviours
-abbrev pub names_of : List (Word × ScriptView) → List Word
-names_of bs = map (λ b. b.0) bs
-
 -- a test case is ready to be run: it has the names of this one, and its jobs are the scripts
 pub record IsCaseOf (c : CaseView) (ready : Case ScriptView) : Type 0 where
   pub name : ready.name ≡ c.0
-  pub names : ready.names.items ≡ names_of c.1
+  pub names : ready.names.items ≡ map (λ b. b.0) c.1
   pub jobs : ready.jobs.items ≡ scripts_of c.1
-
--- the names that are asked for are refused, if the test cases do not have them
-abbrev pub RefusesNames : Bool → RunFault → Type 0
-RefusesNames have RunFault.Only = have ≡ false
-RefusesNames have RunFault.NoMemory = Unit {0}
-RefusesNames have fault = ⊥
 
 -- these are test cases of which this holds, ready to be run
 pub record AreReadyAs (Are : CampaignView → Type 0) (ready : List (Case ScriptView)) : Type 0 where
@@ -50,10 +39,6 @@ pub record AreReadyAs (Are : CampaignView → Type 0) (ready : List (Case Script
   pub distinct : has_twice (map (λ c. c.0) cases) ≡ false
   pub lawful : All (λ c. IsCase c.1) cases
   pub each : AllZip IsCaseOf cases ready
-
--- the chosen test cases of the script that the text is
-abbrev pub AreReady : Choice → List ℕ → List (Case ScriptView) → Type 0
-AreReady choice text = AreReadyAs (AreChosen choice text)
 
 -- the name of a test case, the names of its behaviours, and its scripts
 abbrev pub case_parts : Case ScriptView → List ℕ × (List (List ℕ) × List ScriptView)

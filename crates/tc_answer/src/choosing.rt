@@ -1,8 +1,8 @@
 //! The test cases of a script, and which test cases of a campaign are chosen.
-ghost use Rattle.std.specs.Prelude.{◌≡◌, IfOk, IfErr, true};
+ghost use Rattle.std.specs.Prelude.{◌≡◌, ◌⊎◌, IfOk, IfErr, false, true};
 ghost use Rattle.std.specs.List.{AllZip, list_any};
 ghost use Rattle.tc_rules.specs.Prelude.{matches};
-ghost use Rattle.tc_answer.specs.{Choosing.{RefusesChoice, case_name, chosen, have_names, is_asked as spec_asked, placed_in_shard}, Inside.{AreReady, IsCaseOf, RefusesNames, named as spec_named}};
+ghost use Rattle.tc_answer.specs.{Choosing.{AreChosen, RefusesChoice, case_name, chosen, have_names, is_asked as spec_asked, placed_in_shard}, Inside.{AreReadyAs, IsCaseOf, named as spec_named}, declared.fault.RunFault.TheVariants.{NoMemory as MemoryOut, Only}};
 
 use crate::fault::RunFault;
 use crate::input::read_script;
@@ -121,7 +121,8 @@ pub fn choose_cases<B: Drop>(
 ) -> Result<Vec<Case<B>>, RunFault>
     ensures chosen { IfOk result (λ r. r.items ≡ chosen case_name choice.now.only.items choice.now.shard cases.items) }
     ensures named { IfOk result (λ r. have_names case_name choice.now.only.items cases.items ≡ true) }
-    ensures refused { IfErr result (RefusesNames (have_names case_name choice.now.only.items cases.items)) }
+    ensures refused { IfErr result (λ fault. (fault ≡ MemoryOut)
+        ⊎ ((fault ≡ Only) × (have_names case_name choice.now.only.items cases.items ≡ false))) }
 {
     let only = choice.only.as_slice();
     if !have_all(cases.as_slice(), only) {
@@ -136,7 +137,7 @@ pub fn chosen_cases(
     text: &[u8],
     choice: &Choice,
 ) -> Result<Vec<Case<Script>>, RunFault>
-    ensures chosen { IfOk result (λ cases. AreReady choice.now text.now cases.items) }
+    ensures chosen { IfOk result (λ cases. AreReadyAs (AreChosen choice.now text.now) cases.items) }
     ensures refused { IfErr result (RefusesChoice choice.now text.now) }
 {
     let campaign = read_script(alloc, text)?;

@@ -9,15 +9,10 @@ may_come most n line [] = true
 may_come most n line (b ∷ bs) =
     nat_lt n most && (if b == 10 then may_come most (if starts_with nat_eq line (codes "end ") then 0 else n + 1) [] bs else may_come most (n + 1) (line ++ b ∷ []) bs)
 
--- the text has as many bytes as it may have: all together, or in each block
+-- the text has no more bytes than it may have, all together or in each block, nor more than can be counted
 abbrev pub IsInLimit : Limit → List ℕ → Type 0
 IsInLimit (Limit.Whole most) text = length text ≤ most
 IsInLimit (Limit.Blocks most) text = (length text < 2 ^ 64 - 1) × (may_come most 0 [] text ≡ true)
-
--- it has more: all together, or in a block, or more than can be counted
-abbrev pub IsPastLimit : Limit → List ℕ → Type 0
-IsPastLimit (Limit.Whole most) text = most < length text
-IsPastLimit (Limit.Blocks most) text = (may_come most 0 [] text ≡ false) ⊎ (2 ^ 64 - 1 ≤ length text)
 
 -- the input was read whole: a text of as many bytes as it may have, which is what the input holds if that is known; and this is so of it
 abbrev pub IsReadIn : Limit → Option (List ℕ) → (List ℕ → Type 0) → Type 0

@@ -1,7 +1,7 @@
 //! How many bytes an input of blocks may have, and how many of them are read.
 ghost use Rattle.std.specs.Prelude.{◌≡◌, ◌<◌, ◌≤◌, ◌+◌, ◌++◌, ◌∷◌, [], ℕ, List, Option, length, take, IfOk, IfSome, IfNone, IsErrOf, OnOk, MatchBool, true, false};
 ghost use Rattle.std.specs.Io.KnownBytes.{IsAtEnd};
-ghost use Rattle.tc_blocks.specs.{Inside.IsConsumed, Inside.IsFitSoFar, Inside.IsOpenAfter, Inside.blocks_fit, Inside.ends_block, Inside.is_due, Limit.IsPastLimit};
+ghost use Rattle.tc_blocks.specs.{Inside.IsConsumed, Inside.IsFitSoFar, Inside.IsOpenAfter, Inside.blocks_fit, Inside.ends_block, Inside.is_due, Limit.IsInLimit};
 
 use std::io::Read;
 use tc_stream::{InputFault, read_part};
@@ -107,7 +107,8 @@ impl OpenBytes {
     // The same of an input, if its blocks have a limit.
     fn may_take(&mut self, limit: Limit, part: &[u8]) -> bool
         ensures fits { result ≡ true → (text : List ℕ) → IsFitSoFar limit text self.old → IsFitSoFar limit (text ++ part.now) self.new }
-        ensures long { result ≡ false → (text rest : List ℕ) → IsFitSoFar limit text self.old → IsPastLimit limit (text ++ (part.now ++ rest)) }
+        ensures long { result ≡ false → (text rest : List ℕ) → IsFitSoFar limit text self.old
+            → IsInLimit limit (text ++ (part.now ++ rest)) → ⊥ }
     {
         match limit {
             Limit::Whole(_) => true,
@@ -159,7 +160,8 @@ impl Extent {
             → IsConsumed input (R.remaining reader.new) text self.new)) }
         ensures end { IfOk result (λ n. IfNone n (IsAtEnd (R.remaining reader.new))) }
         ensures long { IsErrOf result InputFault.TooLong → (input : Option (List ℕ)) (text : List ℕ)
-            → IsConsumed input (R.remaining reader.old) text self.old → IfSome input (IsPastLimit self.old.limit) }
+            → IsConsumed input (R.remaining reader.old) text self.old
+            → IfSome input (λ text. IsInLimit self.old.limit text → ⊥) }
     {
         let Some(count) = read_part(reader, room, self.left)? else {
             return Ok(None);

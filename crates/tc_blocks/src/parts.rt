@@ -29,6 +29,7 @@ impl<H: TakesEvidence + Drop> Reading<H> {
 }
 
 // Takes the lines inside this block, which is open, up to its end or that of the text; gives what follows.
+#[inline(always)]
 fn take_inside<'a, H: TakesEvidence + Drop>(
     alloc: Global,
     reading: &mut Reading<H>,

@@ -86,6 +86,7 @@ fn take_line<'a, H: TakesEvidence>(
 
 // Takes the lines inside the block with which the text continues, up to the block's last line or the end of the text. Gives
 // the number of the line that it came to, and if that is the last one, its verdict and what follows it.
+#[inline(never)]
 pub(crate) fn take_lines<'a, H: TakesEvidence>(
     alloc: Global,
     block: &mut OpenBlock<H::Begun>,

@@ -1,7 +1,7 @@
 //! Blocks that are read from an input part by part.
 ghost use Rattle.std.specs.Prelude.{◌≡◌, ◌≢◌, ◌<◌, ◌≤◌, ◌+◌, ◌-◌, ◌++◌, ℕ, List, Option, length, slice_index, false, IfOk, IfErr, IfSome, OnOk, IsErrOf, MatchResult};
 ghost use Rattle.std.specs.Io.KnownBytes.{IsAtEnd};
-ghost use Rattle.tc_blocks.specs.{Inside.IsConsumed, Inside.IsKnown, Inside.IsPending, Inside.IsReadInto, Inside.RefusesIn, Inside.TakesIn, Inside.most_of, Inside.reach, Limit.IsPastLimit, Limit.IsReadIn, Text.AreEvidence, Text.HoldsOfBlocks, Text.IsFault, Text.IsHeader, declared.block.Block.Block};
+ghost use Rattle.tc_blocks.specs.{Inside.IsConsumed, Inside.IsKnown, Inside.IsPending, Inside.IsReadInto, Inside.RefusesIn, Inside.TakesIn, Inside.most_of, Inside.reach, Limit.IsInLimit, Limit.IsReadIn, Text.AreEvidence, Text.HoldsOfBlocks, Text.IsFault, Text.IsHeader, declared.block.Block.Block};
 
 use crate::limit::{Extent, Limit};
 use crate::parts::{finish, take_part};
@@ -98,7 +98,8 @@ fn skip<R: Read>(reader: &mut R, room: &mut [u8], extent: &mut Extent) -> Result
     ensures end { OnOk result (IsAtEnd (R.remaining reader.new)) }
     ensures limit { extent.new.limit ≡ extent.old.limit }
     ensures long { IsErrOf result InputFault.TooLong → (input : Option (List ℕ)) (text : List ℕ)
-        → IsConsumed input (R.remaining reader.old) text extent.old → IfSome input (IsPastLimit extent.old.limit) }
+        → IsConsumed input (R.remaining reader.old) text extent.old
+        → IfSome input (λ text. IsInLimit extent.old.limit text → ⊥) }
 {
     while let Some(_count) = extent.read(reader, room)? {}
     Ok(())
@@ -118,7 +119,8 @@ pub fn read_evidence_from<R: Read, H: TakesEvidence + Drop>(
         (λ made. HoldsOfBlocks text (λ all. H.stands all made))
         (λ e. IsFault IsHeader text e × ((all : List Block) → AreEvidence text all → e ≡ TextFault.NoMemory)))) }
     ensures end { OnOk result (IsAtEnd (R.remaining reader.new)) }
-    ensures long { IsErrOf result InputFault.TooLong → IfSome (R.remaining reader.old) (IsPastLimit limit) }
+    ensures long { IsErrOf result InputFault.TooLong
+        → IfSome (R.remaining reader.old) (λ text. IsInLimit limit text → ⊥) }
 {
     let mut pending = Pending {
         reading: Reading::new(alloc, false),

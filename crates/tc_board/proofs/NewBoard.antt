@@ -1,10 +1,15 @@
 -- A new board meets the rule, and its keeper can give each hand its list.
-use Rattle.std.proofs.Common.{◌≡◌, ◌≢◌, ℕ, zero, suc, ◌+◌, ◌-◌, ◌<◌, ◌≤◌, List, [], ◌∷◌, ◌++◌, map, length, set, get_or, replicate, refl, sym, ap, ◌∙◌, subst, ⊎_elim, arith, length-set}
+use Rattle.std.proofs.{Common.{◌≡◌, ◌≢◌, ℕ, zero, suc, ◌+◌, ◌-◌, ◌<◌, ◌≤◌, List, [], ◌∷◌, ◌++◌, map, length, set, get_or, replicate, refl, sym, ap, ◌∙◌, subst, ⊎_elim, arith, length-set}, lemmas.List.{length-replicate, FromFn.map-range_with_len_more}}
 use mathlib.Core.Option.{some, some-injective, some-ne-none}
 use lib.ListN.{get_elem?}
 use Rattle.atomic_table.{specs.{Table.{opening, Splits}, Seated.TableId}, proofs.Lists.{at_longer, at_set, set_here, at_last}}
 use Rattle.tc_verdict.specs.declared.user_verdict.UserVerdict.TheVariants.{None}
-use Rattle.tc_board.{specs.{Answers.FindsWorst, Board.{first_answers, new_hand, new_hands}, Hand.HandView, Inside.Seats.{answers_of, first_lists, first_record, first_records, hand_view, keeper_view, left_over, list, opening_view, split_off}, Inside.Steps.Seated, Inside.Table.{Holds, Knows, Row, Stands, record_of, row}, Rule.{AnswersAgree, Fits, word_of}, declared.answer.Answer.Answer, declared.answer.Answer.TheVariants.Met, declared.answer.AnswerList.AnswerList, declared.record.Record.{Record, TheVariants.{Open, Unbegun}}, declared.rule.View.View}, proofs.{Answers.NeverShut, Lookup.{at_end, at_length}, Rows.{hand_knows, lists_stand, same_records, stands_on, stays_at, still_knows, words_stay}}}
+use Rattle.tc_board.{specs.{Answers.FindsWorst, Board.{first_answers, new_hand, new_hands}, Hand.HandView, Inside.Seats.{answers_of, first_lists, hand_view, keeper_view, left_over, list, opening_view, split_off}, Inside.Steps.Seated, Inside.Table.{Holds, Knows, Row, Stands, record_of, row}, Rule.{AnswersAgree, Fits, word_of}, declared.answer.Answer.Answer, declared.answer.Answer.TheVariants.Met, declared.answer.AnswerList.AnswerList, declared.record.Record.{Record, TheVariants.{Open, Unbegun}}, declared.rule.View.View}, proofs.{Answers.NeverShut, Lookup.{at_end, at_length}, Rows.{hand_knows, lists_stand, same_records, stands_on, stays_at, still_knows, words_stay}}}
+
+-- the first record of the word of a run
+abbrev first_record : ℕ → Record
+first_record zero = Open None
+first_record (suc k) = Unbegun
 
 first_rows : ℕ → ℕ → List Row
 first_rows k zero = []
@@ -24,19 +29,16 @@ unfolding first_rows first_words
 as_many_rows k zero = refl
 as_many_rows k (suc n) = ap suc (as_many_rows (suc k) n)
 
-records_of_rows : (k n : ℕ) → first_records k n ≡ map record_of (first_rows k n)
+unbegun_rows : (k n : ℕ) → replicate n Unbegun ≡ map record_of (first_rows (suc k) n)
 unfolding first_rows
-records_of_rows k zero = refl
-records_of_rows k (suc n) = ap (λ l. first_record k ∷ l) (records_of_rows (suc k) n)
-
-unbegun_from : (k n : ℕ) → first_records (suc k) n ≡ replicate n Unbegun
-unbegun_from k zero = refl
-unbegun_from k (suc n) = ap (λ l. Unbegun ∷ l) (unbegun_from (suc k) n)
+unbegun_rows k zero = refl
+unbegun_rows k (suc n) = ap (λ l. Unbegun ∷ l) (unbegun_rows (suc k) n)
 
 -- the first record of a new board is open, the others are unbegun
-first_open : (n : ℕ) → first_records 0 n ≡ set (replicate n Unbegun) 0 (Open None)
-first_open zero = refl
-first_open (suc n) = ap (λ l. Open None ∷ l) (unbegun_from 0 n)
+records_of_rows : (n : ℕ) → set (replicate n Unbegun) 0 (Open None) ≡ map record_of (first_rows 0 n)
+unfolding first_rows
+records_of_rows zero = refl
+records_of_rows (suc n) = ap (λ l. Open None ∷ l) (unbegun_rows 0 n)
 
 first_agrees : (k : ℕ) → AnswersAgree (first_record k) (first_answers k)
 first_agrees zero = (never_shut, finds)
@@ -66,7 +68,7 @@ keeper_knows : (n : ℕ) → Knows (first_rows 0 n) 0 0 (opening_view n)
 keeper_knows n = record {
   lists = λ p l e. let f = list_at 0 n p l e in let is : 0 + p ≡ p = omega arith in
       (first_record (0 + p), subst (λ (y : AnswerList). get_elem? (first_rows 0 n) y.run ≡ some (row (first_record (0 + p)) y.answers 0)) (sym f.0) (ap (get_elem? (first_rows 0 n)) is ∙ f.1));
-  records = λ _. (refl, sym (first_open n) ∙ records_of_rows 0 n);
+  records = λ _. (refl, records_of_rows n);
 }
 
 row_stands : (k n p : ℕ) (r : Row) → get_elem? (first_rows k n) p ≡ some r → (r.seat ≡ 0) × (get_elem? (first_lists k n) p ≡ some (list (k + p) r.answers))
@@ -167,22 +169,12 @@ hand_made k (suc n) me other records is more e = e ∙ ap (λ (m : Seated). (spl
 pub hand_shape : (k : ℕ) (answers : List Answer) (me : Seated) → me ≡ (hand_view k answers, []) → me ≡ (hand_view k (answers_of me.0.lists), [])
 hand_shape k answers me is = subst (λ (m : Seated). m ≡ (hand_view k (answers_of m.0.lists), [])) (sym is) refl
 
-length-first : (k n : ℕ) → length (first_records k n) ≡ n
-length-first k zero = refl
-length-first k (suc n) = ap suc (length-first (suc k) n)
-
 pub keeper_shape : (n words : ℕ) (lists : List AnswerList) (me : Seated) → me ≡ (keeper_view (set (replicate n Unbegun) 0 (Open None)) lists, []) → words ≡ n → (me ≡ (keeper_view me.0.records me.0.lists, [])) × (length me.0.records ≡ words)
-keeper_shape n words lists me is same = subst (λ (m : Seated). (m ≡ (keeper_view m.0.records m.0.lists, [])) × (length m.0.records ≡ words)) (sym is) (refl, ap length (sym (first_open n)) ∙ (length-first 0 n ∙ sym same))
-
-new_hands-end : (board : TableId) (k n : ℕ) → new_hands board k n ++ new_hand board (k + n) ∷ [] ≡ new_hands board k (suc n)
-new_hands-end board k zero = let is : k + 0 ≡ k = omega arith in ap (λ i. new_hand board i ∷ []) is
-new_hands-end board k (suc n) = let is : k + suc n ≡ suc k + n = omega arith in ap (λ i. new_hand board k ∷ (new_hands board (suc k) n ++ new_hand board i ∷ [])) is ∙ ap (λ l. new_hand board k ∷ l) (new_hands-end board (suc k) n)
+keeper_shape n words lists me is same = subst (λ (m : Seated). (m ≡ (keeper_view m.0.records m.0.lists, [])) × (length m.0.records ≡ words)) (sym is) (refl, length-set (replicate n Unbegun) 0 (Open None) ∙ (length-replicate n Unbegun ∙ sym same))
 
 -- one more hand
 pub hands_added : (board table : TableId) (k : ℕ) (hands hands' : List HandView) (me : Seated) → table ≡ board → hands ≡ new_hands board 0 k → me ≡ (hand_view k (first_answers k), [])
     → hands' ≡ hands ++ record { board = table; run = k; answers = answers_of me.0.lists } ∷ [] → hands' ≡ new_hands board 0 (k + 1)
 hands_added board table k hands hands' me at before is e =
-    let n : suc k ≡ k + 1 = omega arith in
-    let z : k ≡ 0 + k = omega arith in
     let a : hands ++ record { board = table; run = k; answers = answers_of me.0.lists } ∷ [] ≡ new_hands board 0 k ++ new_hand board k ∷ [] = λ i. before i ++ record { board = at i; run = k; answers = answers_of (is i).0.lists } ∷ [] in
-    e ∙ (a ∙ (ap (λ i. new_hands board 0 k ++ new_hand board i ∷ []) z ∙ (new_hands-end board 0 k ∙ ap (new_hands board 0) n)))
+    e ∙ (a ∙ sym (map-range_with_len_more (new_hand board) 0 k k (omega arith)))

@@ -1,5 +1,5 @@
 -- A new board: the word of run 0 is open with none and its hand has met it, every other word is unbegun.
-use Rattle.std.specs.Prelude.{ℕ, zero, suc, List, [], ◌∷◌, replicate, slice_set}
+use Rattle.std.specs.{Prelude.{ℕ, zero, suc, List, [], ◌∷◌, map, replicate, slice_set}, List.range_with_len}
 use Rattle.atomic_table.specs.Seated.{TableId}
 use Rattle.tc_entry.specs.Prelude.{UserVerdict}
 use Rattle.tc_board.specs.{Hand.HandView, Keeper.KeeperView, declared.answer.Answer.Answer, declared.answer.Answer.TheVariants.Met, declared.record.Record.TheVariants.Open, declared.record.Record.TheVariants.Unbegun}
@@ -15,8 +15,7 @@ new_hand board run = record { board = board; run = run; answers = first_answers 
 
 -- the hands of n runs, from this run on
 abbrev pub new_hands : TableId → ℕ → ℕ → List HandView
-new_hands board run zero = []
-new_hands board run (suc n) = new_hand board run ∷ new_hands board (suc run) n
+new_hands board run n = map (new_hand board) (range_with_len run n)
 
 -- the keeper of n words
 abbrev pub new_keeper : TableId → ℕ → KeeperView

@@ -28,7 +28,3 @@ carried_by records run = carried_in (slice_get records run)
 -- the keeper with another record of one word
 abbrev pub recorded : KeeperView → ℕ → Record → KeeperView
 recorded k run r = record k { records = slice_set k.records run r }
-
--- the keeper with the answers of one more hand
-abbrev pub gathered : KeeperView → HandView → KeeperView
-gathered k h = record k { gathered = k.gathered ++ record { run = h.run; answers = h.answers } ∷ [] }

@@ -1,5 +1,5 @@
 //! The keeper, which opens and closes the words.
-ghost use Rattle.std.specs.Prelude.{◌≡◌, Contains, slice_get};
+ghost use Rattle.std.specs.Prelude.{◌≡◌, ◌++◌, ◌∷◌, [], Contains, slice_get};
 ghost use Rattle.tc_entry.specs.Prelude.{given};
 ghost use Rattle.tc_board.specs.declared.record.Record.{Record, TheVariants.Closed as IsClosed, TheVariants.Open as IsBegun, TheVariants.Unbegun};
 
@@ -29,7 +29,7 @@ impl Model for Keeper {
 }
 
 impl Keeper {
-    ghost use Rattle.tc_board.specs.{Answers.worst_answer, declared.answer.AnswerList.AnswerList, Rule.AnswersAgree, Keeper.{IsOpen, carried_by, recorded, gathered}};
+    ghost use Rattle.tc_board.specs.{Answers.worst_answer, declared.answer.AnswerList.AnswerList, Rule.AnswersAgree, Keeper.{IsOpen, carried_by, recorded}};
 
     /// Opens the word of a run, with the verdict that its component carries.
     pub fn begin(&mut self, board: &Board, run: Run, carried: UserVerdict)
@@ -69,7 +69,9 @@ impl Keeper {
     pub fn gather(&mut self, board: &Board, hand: Hand)
         requires board { self.old.board ≡ board.now }
         requires hand { hand.board ≡ board.now }
-        ensures list { self.new ≡ gathered self.old hand }
+        ensures list { self.new ≡ record self.old {
+          gathered = self.old.gathered ++ record { run = hand.run; answers = hand.answers } ∷ [];
+        } }
         ensures agrees { (r : Record) × (slice_get self.old.records hand.run ≡ Some r) × AnswersAgree r hand.answers }
     {
         let Hand { run, seat } = hand;

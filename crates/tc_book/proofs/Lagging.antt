@@ -1,8 +1,8 @@
 -- The words after one more entry: they lag at most.
-use Rattle.std.proofs.{Common.{ℕ, ◌≡◌, ◌≢◌, ◌<◌, ◌==◌, ◌&&◌, not, if◌then◌else◌, Bool, true, false, Option, Some, None, is_some, List, ◌∷◌, length, set, length-set, refl, ap, sym, ◌∙◌, subst, arith, inl, inr}, lemmas.Bool.Decides.nat_tests, lemmas.Bool.{cases_eq, ne_eqb}}
+use Rattle.std.proofs.{Common.{ℕ, ◌≡◌, ◌≢◌, ◌<◌, ◌==◌, ◌&&◌, not, if◌then◌else◌, Bool, true, false, Option, Some, None, is_some, unwrap_or, List, ◌∷◌, length, set, length-set, refl, ap, sym, ◌∙◌, subst, arith, inl, inr}, lemmas.Bool.Decides.nat_tests, lemmas.Bool.{cases_eq, ne_eqb}}
 use Rattle.tc_rules.{specs.Prelude.{Run, UserVerdict, Comp, Entry, Op, Reply, is_ok, comp_of, first_some, halts, started_on, last_run, phase, start_in, is_running, answer, is_active, IsLegal}, proofs.{Lemmas.Going.{halted_by_entry, last_on_it, last_stands, started_by_entry, starts_still}, Lemmas.Sound.{no_special, plain_if, start_in_range, starts_fresh}}}
 use Rattle.tc_board.specs.declared.record.Record.{Record, TheVariants.Closed, TheVariants.Open, TheVariants.Unbegun}
-use Rattle.tc_book.{specs.{Inside.Words.{CanBegin, Lags, WordsLag, with_start, carried_to, last_on, left_by}, Words.{IsWordOf, WordsAgree, carried, closing, is_closed, record_at, run_before}}, proofs.Settling.{at_same, at_other}}
+use Rattle.tc_book.{specs.{Inside.Words.{CanBegin, Lags, WordsLag, with_start, carried_to, last_on, left_by}, Words.{IsWordOf, WordsAgree, carried, closing, record_at, run_before}}, proofs.Settling.{at_same, at_other}}
 
 first_true : (a b : Bool) → (a && b) ≡ true → a ≡ true
 first_true true b h = refl
@@ -56,16 +56,16 @@ partly_after n past e words legal none t = record {
 
 left_kept : (words : List Record) (i : ℕ) (r : Record) (o : Option Run) → ((a : Run) → o ≡ Some a → a.0 ≢ i) → left_by (set words i r) o ≡ left_by words o
 left_kept words i r None other = refl
-left_kept words i r (Some a) other = ap closing (at_other words i a.0 r (other a refl))
+left_kept words i r (Some a) other = ap (λ x. unwrap_or (closing x) UserVerdict.None) (at_other words i a.0 r (other a refl))
 
 -- the last run on a component that is not running has its word closed
 last_closed : (n : ℕ) (past : List Entry) (words : List Record) (c : ℕ) (a : Run) → 0 < n → IsLegal n past → WordsAgree n past words →
-    is_running (phase past c) ≡ false → last_run past c ≡ Some a → is_closed (record_at words a.0) ≡ true
+    is_running (phase past c) ≡ false → last_run past c ≡ Some a → is_some (closing (record_at words a.0)) ≡ true
 last_closed n past words c a some legal t still h =
     let k = last_on_it n past c a some legal h in
     let off : is_active past a.0 ≡ false = last_stands past c a k.0 still in
     let halted : (v : UserVerdict) × (record_at words a.0 ≡ Closed (carried words past a.0) v) = rw (k.0, off) at (t.each a.0 k.1) in
-    ap is_closed halted.1
+    ap (λ x. is_some (closing x)) halted.1
 
 abbrev pub start : Run → Comp → Run → List Comp → Entry
 start caller comp run args = record { caller = caller; op = Op.Start comp run args; reply = Reply.Ok }
@@ -89,13 +89,13 @@ partly_started n past words caller comp run args legal t =
     let w : Record = Open (left_by words (last_run past comp.0)) in
     let within : run.0 < length words = rw t.as_many below in
     let empty : record_at words run.0 ≡ Unbegun = rw free at (t.each run.0 below) in
-    let not_it : (a : ℕ) → is_closed (record_at words a) ≡ true → a ≢ run.0 =
-    λ a d is. let q : is_closed (record_at words run.0) ≡ true = subst (λ k. is_closed (record_at words k) ≡ true) is d in
-    let z : is_closed Unbegun ≡ true = rw empty at q in let y : false ≡ true = z in cc in
+    let not_it : (a : ℕ) → is_some (closing (record_at words a)) ≡ true → a ≢ run.0 =
+    λ a d is. let q : is_some (closing (record_at words run.0)) ≡ true = subst (λ k. is_some (closing (record_at words k)) ≡ true) is d in
+    let z : is_some (closing Unbegun) ≡ true = rw empty at q in let y : false ≡ true = z in cc in
     let here : started_on e run.0 ≡ Some comp = rw (same_test run.0) refl in
     let before_here : run_before (e ∷ past) run.0 ≡ last_run past comp.0 = rw (free, here) refl in
     let other : (b : ℕ) → b ≢ run.0 → started_on e b ≡ None = λ b ne. rw (ne_eqb run.0 b (λ h. ne (sym h))) refl in
-    let all_before : (b : ℕ) (a : Run) → run_before (e ∷ past) b ≡ Some a → is_closed (record_at words a.0) ≡ true =
+    let all_before : (b : ℕ) (a : Run) → run_before (e ∷ past) b ≡ Some a → is_some (closing (record_at words a.0)) ≡ true =
     λ b a is. elim (cases_eq b run.0) [
       | inl same ↦ last_closed n past words comp.0 a some legal.1 t still (sym before_here ∙ subst (λ k. run_before (e ∷ past) k ≡ Some a) same is)
       | inr ne ↦ t.before b a (before_same past e b a (other b ne) is)

@@ -1,8 +1,8 @@
 -- The words after the newest entry, before any word is closed.
-use Rattle.std.proofs.{Common.{ℕ, ◌≡◌, ◌<◌, ◌&&◌, not, Bool, true, false, Some, None, List, [], ◌∷◌, ◌++◌, drop, reverse, refl, ap, sym, ◌∙◌, subst, inl, inr}, lemmas.Bool.cases_eq, lemmas.List.reverse-append}
+use Rattle.std.proofs.{Common.{ℕ, ◌≡◌, ◌<◌, ◌&&◌, not, Bool, true, false, Some, None, is_some, List, [], ◌∷◌, ◌++◌, drop, reverse, refl, ap, sym, ◌∙◌, subst, inl, inr}, lemmas.Bool.cases_eq, lemmas.List.reverse-append}
 use Rattle.tc_rules.{specs.Prelude.{Run, UserVerdict, Comp, Entry, Op, Reply, comp_of, halts, start_in, is_active, may_halt, IsLegal}, proofs.{Lemmas.Going.{halted_by_entry, others_halt_nothing, started_by_entry}, Lemmas.Sound.starts_fresh}}
 use Rattle.tc_board.specs.declared.record.Record.{Record, TheVariants.Open}
-use Rattle.tc_book.{specs.{Inside.Words.{CanBegin, WordsLag, is_open, with_start, carried_to, carried_to_newest}, Words.{StayClosed, WordsAgree, carried, is_closed, record_at}}, proofs.{Lagging.{after_entry, can_begin, entry, same_test, start}, Settling.{all_agree, at_other, open_means, stay_closed}}}
+use Rattle.tc_book.{specs.{Inside.Words.{CanBegin, WordsLag, is_open, with_start, carried_to, carried_to_newest}, Words.{StayClosed, WordsAgree, carried, closing, record_at}}, proofs.{Lagging.{after_entry, can_begin, entry, same_test, start}, Settling.{all_agree, at_other, open_means, stay_closed}}}
 
 both : (a h : Bool) → a ≡ true → h ≡ false → (a && not h) ≡ true
 both true false p q = refl
@@ -70,7 +70,7 @@ can_begin_newest n whole past e words is legal agree =
 
 -- the word that an entry begins was not closed
 pub begun_stay_closed : (op : Op) (reply : Reply) (u : UserVerdict) (words : List Record) → CanBegin op reply words → StayClosed words (with_start op reply u words)
-begun_stay_closed (Op.Start c run args) Reply.Ok u words can = stay_closed words run.0 (Open u) (ap is_closed can.1)
+begun_stay_closed (Op.Start c run args) Reply.Ok u words can = stay_closed words run.0 (Open u) (ap (λ x. is_some (closing x)) can.1)
 begun_stay_closed (Op.Start c run args) reply u words can = λ b h. refl
 begun_stay_closed op reply u words can = λ b h. refl
 

@@ -1,7 +1,7 @@
 -- Each log is its run's part of the merge.
 use Rattle.std.{proofs.{Common.{◌≡◌, ◌≢◌, ℕ, zero, suc, ◌<◌, ◌≤◌, ◌==◌, ◌&&◌, if◌then◌else◌, Bool, true, false, Option, Some, None, is_some, List, [], ◌∷◌, ◌++◌, drop, filter, reverse, refl, sym, ap, ◌∙◌, subst, append_assoc, eq-eqb, arith, ◌⊎◌, inl, inr}, lemmas.Bool.{cases_eq, cases_lt, ne_eqb}, lemmas.List.Elements.filter-append, lemmas.List.{append-nil, reverse-append, reverse-reverse}}, specs.List.All}
 use Rattle.tc_rules.specs.{Prelude.{Run, Comp, Entry, Op, is_ended, is_ok, comp_of, first_some, starts_run, is_other, is_late, is_verdict_call, verdict_calls_after, calls_of, started, started_run, in_place, late, log_of, runs_end, merge, is_by, part}, declared.run_log.RunLog.RunLog}
-use Rattle.tc_book.{specs.{Inside.Merging.head_at_start, OneCase.{AreOfOneCase, AreStartedOnce, all_started}}, proofs.InPlace.{calls_more, calls_same, log_of-beyond}}
+use Rattle.tc_book.{specs.{Inside.Merging.head_at_start, OneCase.{AreOfOneCase, all_started}}, proofs.InPlace.{calls_more, calls_same, log_of-beyond}}
 
 -- the part of a history by run b, as it computes
 abbrev pub entries_by : List Entry → ℕ → List Entry
@@ -293,13 +293,18 @@ there : (o : Option Comp) → is_some o ≡ true → o ≢ None
 there (Some c) h = λ q. cc
 there None h = absurd cc
 
-steps : (b : ℕ) (log : ℕ → List Entry) (past rest : List Entry) → ((c : ℕ) → AllBy c (log c)) → all_started past ≡ true → AreStartedOnce past →
+-- no entry starts a run that was started before it
+abbrev StartsOnce : List Entry → Type 0
+StartsOnce past = (run : Run) (later earlier : List Entry) (x : Entry) → past ≡ later ++ x ∷ earlier → started x ≡ Some run → comp_of earlier run.0 ≡ None
+
+steps : (b : ℕ) (log : ℕ → List Entry) (past rest : List Entry) → ((c : ℕ) → AllBy c (log c)) → all_started past ≡ true → StartsOnce past →
     others (log b) ≡ entries_by (reverse past ++ rest) b → Before log past b ⊎ After log past b
 steps b log [] rest own by_started once h = opening b log own
 steps b log (e ∷ past) rest own by_started once h =
     let g : others (log b) ≡ entries_by (reverse past ++ e ∷ rest) b = h ∙ part_of_more b e past rest in
     let s = both (is_some (comp_of past e.caller.0)) (all_started past) by_started in
-    step b log past rest e own (there (comp_of past e.caller.0) s.0) once.0 (align b log past (e ∷ rest) g) (steps b log past (e ∷ rest) own s.1 once.1 g)
+    let before : StartsOnce past = λ run later earlier x is. once run (e ∷ later) earlier x (ap (λ l. e ∷ l) is) in
+    step b log past rest e own (there (comp_of past e.caller.0) s.0) (λ run. once run [] past e refl) (align b log past (e ∷ rest) g) (steps b log past (e ∷ rest) own s.1 before g)
 
 by_late : (b : ℕ) (xs : List Entry) → AllBy b xs → AllBy b (filter is_late xs)
 by_late b [] p = p

@@ -1,6 +1,6 @@
 -- What a report says of a case that is over.
 use Rattle.std.proofs.{Common.{ℕ, zero, suc, ◌≡◌, ◌≢◌, ◌+◌, ◌<◌, ◌≤◌, ◌==◌, cond, Bool, true, false, Option, Some, None, is_some, List, [], ◌∷◌, ◌++◌, length, reverse, map, filter, count_by, refl, ap, sym, ◌∙◌, arith, add-one, eq-eqb, inl, inr}, lemmas.Bool.{cases_eq, cases_lt, ne_eqb}, lemmas.List.Sums.sum_by-append, lemmas.List.{append-nil, get_or_append_left, length-map, reverse-reverse}, Math.Seq.get_or-append_seam}
-use Rattle.tc_rules.{specs.{Prelude.{worst, Comp, Entry, comps, comp_of, first_some, is_over, local, overall, IsLegal, IsAllOver, is_by, is_other, log_of, merge, logged, part, log_if, logs_below, started_on, Kept, StandsFor, IsOneHistory}, declared.closed.Closed.Closed, declared.run_log.RunLog.RunLog}, proofs.{Lemmas.Deciding.{and_left, and_right, equal_if}, Lemmas.Differing.later_legal, Lemmas.Numbered.numbered, Lemmas.Over.all_over, Lemmas.Standing.stands_legal}}
+use Rattle.tc_rules.{specs.{Prelude.{worst, Comp, Entry, comps, comp_of, first_some, is_over, local, overall, IsLegal, IsAllOver, is_by, is_other, log_of, merge, logged, part, log_if, logs_below, started_on, Kept, StandsFor, IsOneHistory}, declared.closed.Closed.Closed, declared.run_log.RunLog.RunLog}, proofs.{Lemmas.Deciding.{and_left, and_right, equal_if}, Lemmas.Differing.later_legal, Lemmas.Numbered.comps_numbered, Lemmas.Over.all_over, Lemmas.Standing.stands_legal}}
 use Rattle.tc_book.{proofs.{Length.{is_log_of, long_by_parts}, InPlace.{log_or, log_or-last, log_or-none}, Lemmas.PartOf.comp_known, Skipping.filter-reverse}, specs.{OneCase.all_started, Inside.{KnowsParts, KnowsStarts, comp_by, log_on, logs_from, start_at}}}
 
 first_none : (o p : Option Comp) → first_some o p ≡ None → o ≡ None
@@ -106,8 +106,7 @@ one_history s h c stands started over merged n_is h_is logs_is locals_is verdict
       no_others = λ b none. rw h_is (no_others h b started (rw h_is at none));
       over = rw h_is over;
       none_alive = λ later earlier split o. rw n_is (none_alive n past later earlier legal (rw h_is at split) o);
-      numbered = rw (h_is, locals_is, length-map) (numbered n past legal);
-      locals = rw h_is locals_is;
+      locals = rw h_is (locals_is ∙ ap (map (local past)) (comps_numbered n past legal));
       verdict = rw h_is verdict_is;
     }
 

@@ -1,8 +1,8 @@
 -- Words that are closed one after the other.
-use Rattle.std.proofs.{Common.{ℕ, ◌≡◌, ◌≢◌, ◌+◌, ◌<◌, Bool, true, false, Option, Some, None, List, length, length-set, get_or-set_other, get_or-set_same, set, below_more, refl, ap, sym, ◌∙◌, subst, arith, inl, inr}, lemmas.Bool.cases_eq}
+use Rattle.std.proofs.{Common.{ℕ, ◌≡◌, ◌≢◌, ◌+◌, ◌<◌, Bool, true, false, Option, Some, None, is_some, unwrap_or, List, length, length-set, get_or-set_other, get_or-set_same, set, below_more, refl, ap, sym, ◌∙◌, subst, arith, inl, inr}, lemmas.Bool.cases_eq}
 use Rattle.tc_rules.specs.Prelude.{Run, UserVerdict, Comp, Entry, comp_of, is_active}
 use Rattle.tc_board.specs.declared.record.Record.{Record, TheVariants.Closed, TheVariants.Open, TheVariants.Unbegun}
-use Rattle.tc_book.specs.{Inside.Words.{Lags, WordsLag, is_open, opening, left_by}, Words.{IsWordOf, StayClosed, WordsAgree, carried, closing, is_closed, record_at, run_before}}
+use Rattle.tc_book.specs.{Inside.Words.{Lags, WordsLag, is_open, opening, left_by}, Words.{IsWordOf, StayClosed, WordsAgree, carried, closing, record_at, run_before}}
 
 -- an open word is of a run that was started and is active
 pub open_means : (o : Option Comp) (active : Bool) (u : UserVerdict) (r : Record) → IsWordOf o active u r → is_open r ≡ true →
@@ -11,7 +11,7 @@ open_means None active u r is h = let e : false ≡ true = sym (ap is_open is) �
 open_means (Some c) true u r is h = (c, refl, refl, is)
 open_means (Some c) false u r is h = let e : false ≡ true = sym (ap is_open is.1) ∙ h in absurd cc
 
-not_closed_if_open : (r : Record) → is_open r ≡ true → is_closed r ≡ true → is_closed Unbegun ≡ true
+not_closed_if_open : (r : Record) → is_open r ≡ true → is_some (closing r) ≡ true → is_some (closing Unbegun) ≡ true
 not_closed_if_open (Open u) a b = b
 not_closed_if_open _ a b = a
 
@@ -22,11 +22,11 @@ pub at_same : (words : List Record) (i : ℕ) (r : Record) → i < length words 
 at_same words i r within = get_or-set_same words i r Unbegun within
 
 left_by_same : (words : List Record) (i : ℕ) (r : Record) (o : Option Run) → is_open (record_at words i) ≡ true →
-    ((a : Run) → o ≡ Some a → is_closed (record_at words a.0) ≡ true) → left_by (set words i r) o ≡ left_by words o
+    ((a : Run) → o ≡ Some a → is_some (closing (record_at words a.0)) ≡ true) → left_by (set words i r) o ≡ left_by words o
 left_by_same words i r None begun done = refl
 left_by_same words i r (Some a) begun done =
-    let other : a.0 ≢ i = λ is. let e = not_closed_if_open (record_at words i) begun (subst (λ k. is_closed (record_at words k) ≡ true) is (done a refl)) in cc in
-    ap closing (at_other words i a.0 r other)
+    let other : a.0 ≢ i = λ is. let e = not_closed_if_open (record_at words i) begun (subst (λ k. is_some (closing (record_at words k)) ≡ true) is (done a refl)) in cc in
+    ap (λ x. unwrap_or (closing x) UserVerdict.None) (at_other words i a.0 r other)
 
 pub close_one : (n : ℕ) (past : List Entry) (words : List Record) (i : ℕ) (w : UserVerdict) → WordsLag n past words i → i < n →
     is_open (record_at words i) ≡ true → is_active past i ≡ false →
@@ -55,7 +55,7 @@ close_one n past words i w p less begun halted =
       ];
       before = λ b a is.
           let old = p.before b a is in
-          let other : a.0 ≢ i = λ e. let q = not_closed_if_open (record_at words i) begun (subst (λ k. is_closed (record_at words k) ≡ true) e old) in cc in
+          let other : a.0 ≢ i = λ e. let q = not_closed_if_open (record_at words i) begun (subst (λ k. is_some (closing (record_at words k)) ≡ true) e old) in cc in
           rw (at_other words i a.0 r other) old;
       settled = below_more (λ b. is_open (record_at (set words i r) b) ≡ true → is_active past b ≡ true) i
           (λ b below. let other : b ≢ i = omega arith in rw (at_other words i b r other) (p.settled b below))
@@ -79,11 +79,11 @@ all_agree n past words p = record {
 }
 
 -- a word that is not closed can be changed, and those that are stay as they were
-pub stay_closed : (words : List Record) (i : ℕ) (r : Record) → is_closed (record_at words i) ≡ false → StayClosed words (set words i r)
+pub stay_closed : (words : List Record) (i : ℕ) (r : Record) → is_some (closing (record_at words i)) ≡ false → StayClosed words (set words i r)
 stay_closed words i r unclosed b h =
-    let other : b ≢ i = λ is. let q : true ≡ false = sym (subst (λ k. is_closed (record_at words k) ≡ true) is h) ∙ unclosed in cc in
+    let other : b ≢ i = λ is. let q : true ≡ false = sym (subst (λ k. is_some (closing (record_at words k)) ≡ true) is h) ∙ unclosed in cc in
     at_other words i b r other
 
-pub open_unclosed : (r : Record) → is_open r ≡ true → is_closed r ≡ false
+pub open_unclosed : (r : Record) → is_open r ≡ true → is_some (closing r) ≡ false
 open_unclosed (Closed u v) h = absurd cc
 open_unclosed _ h = refl

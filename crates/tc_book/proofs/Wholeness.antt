@@ -95,7 +95,6 @@ whole_by n starts parts h lefts joined sound none =
           record {
             part = sym (own_log lefts k d q (one.each l.run.0 within)) ∙ parts_known l.run.0 within;
             started = λ some. place.started some ∙ joined.known l.run.0;
-            unstarted = λ none. place.unstarted (comp_known starts (reverse h) l.run.0 joined.known ∙ none);
           };
       as_long = long_by_parts h (map run_log lefts) all_parts (distinct n lefts one) ∙ logged_map lefts;
     }
@@ -109,7 +108,7 @@ whole_placed n starts h lefts known w = record {
       let fit = w.fitting k d q in
       record {
         started = λ some. fit.started some ∙ sym (known l.run.0);
-        unstarted = λ none. fit.unstarted (sym (comp_known starts (reverse h) l.run.0 known) ∙ none);
+        unstarted = λ none. fit.part ∙ no_others h l.run.0 w.started (sym (comp_known starts (reverse h) l.run.0 known) ∙ none);
       };
 }
 

@@ -1,6 +1,7 @@
 -- A worked case, computed from the definitions.
-use Rattle.std.{proofs.{Common.{ℕ, zero, suc, ◌<◌, ◌≡◌, ◌==◌, if◌then◌else◌, Bool, true, false, Some, None, List, [], ◌∷◌, ◌++◌, filter, get_or, length, reverse, refl, sym, ap, subst, arith, ◌∙◌}, lemmas.Bool.ne_eqb}, specs.List.{All, AllByRecursion}}
-use Rattle.tc_rules.specs.{Prelude.{Run, UserVerdict, Comp, Entry, Op, Reply, comp_of, is_late, exists, phase, running, alive, done, killed, holds, is_stuck, all_exist, start_fault, components, fault, is_active, answer, IsLegal, local, overall, is_other, log_of, merge, late, part, Verdict, Group}, declared.run_log.RunLog.RunLog}
+use Rattle.std.{proofs.{Common.{ℕ, zero, suc, ◌<◌, ◌≡◌, ◌==◌, if◌then◌else◌, Bool, true, false, ◌&&◌, Option, Some, None, is_none, List, [], ◌∷◌, ◌++◌, filter, get_or, length, reverse, refl, sym, ap, subst, arith, ◌∙◌}, lemmas.Bool.ne_eqb}, specs.{List.{All, AllByRecursion}, Option.option_map_or}}
+use Rattle.tc_rules.proofs.Lemmas.Deciding.{and_left, and_right}
+use Rattle.tc_rules.specs.{Prelude.{Run, UserVerdict, Comp, Entry, Op, Reply, comp_of, started, is_late, exists, phase, running, alive, done, killed, holds, is_stuck, all_exist, start_fault, components, fault, is_active, answer, IsLegal, local, overall, is_other, log_of, merge, late, part, Verdict, Group}, declared.run_log.RunLog.RunLog}
 use Rattle.tc_book.specs.OneCase.{AreOfOneCase}
 
 abbrev entry : ℕ → Op → Reply → Entry
@@ -100,8 +101,21 @@ by_number P main first second others (suc (suc (suc b))) =
       second = ne_eqb 2 (suc (suc (suc b))) (omega arith);
     })
 
-fresh : (past : List Entry) (r : Run) (run : Run) → comp_of past r.0 ≡ None → Some r ≡ Some run → comp_of past run.0 ≡ None
-fresh past r run none is = let same : r ≡ run = cc in subst (λ (x : Run). comp_of past x.0 ≡ None) same none
+abbrev starts_once : List Entry → Bool
+starts_once [] = true
+starts_once (e ∷ past) = option_map_or (λ run. is_none (comp_of past run.0)) (started e) true && starts_once past
+
+none_there : (o : Option Comp) → is_none o ≡ true → o ≡ None
+none_there (Some c) h = absurd cc
+none_there None h = refl
+
+once_by : (past later earlier : List Entry) (e : Entry) (run : Run) → starts_once past ≡ true → past ≡ later ++ e ∷ earlier → started e ≡ Some run → comp_of earlier run.0 ≡ None
+once_by past [] earlier e run s q is =
+    let starts : Option Run → Bool = λ o. option_map_or (λ (r : Run). is_none (comp_of earlier r.0)) o true in
+    none_there (comp_of earlier run.0) (ap starts (sym is) ∙ and_left (starts (started e)) (starts_once earlier) (subst (λ l. starts_once l ≡ true) q s))
+once_by past (d ∷ later) earlier e run s q is =
+    let rest : List Entry = later ++ e ∷ earlier in
+    once_by rest later earlier e run (and_right (option_map_or (λ (r : Run). is_none (comp_of rest r.0)) (started d) true) (starts_once rest) (subst (λ l. starts_once l ≡ true) q s)) refl is
 
 no_log : (b : ℕ) → IsElse b → log_of logs b ≡ []
 no_log b other = rw (other.second, other.main, other.first) refl
@@ -155,19 +169,7 @@ late_last es (d ∷ before) after e s q late =
 three_logs_of_one_case : AreOfOneCase history logs
 three_logs_of_one_case = record {
   started = refl;
-  once = (
-    (λ r is. absurd cc),
-    (
-      (λ r is. fresh (stop ∷ start 1 ∷ create ∷ []) (run 2) r refl is),
-      (
-        (λ r is. absurd cc),
-        (
-          (λ r is. fresh (create ∷ []) (run 1) r refl is),
-          ((λ r is. absurd cc), tt),
-        ),
-      ),
-    ),
-  );
+  once = λ run later earlier e. once_by (reverse history) later earlier e run refl;
   unstarted = by_number (λ b. comp_of (reverse history) b ≡ None → log_of logs b ≡ []) (λ h. absurd cc) (λ h. absurd cc) (λ h. absurd cc) (λ b other h. no_log b other);
   own = by_number (λ b. All (λ e. e.caller.0 ≡ b) (log_of logs b))
       (by_recursion 0 (log_of logs 0) (refl, (refl, (refl, (refl, (refl, (refl, (refl, tt))))))))

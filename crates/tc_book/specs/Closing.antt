@@ -16,8 +16,6 @@ pub record IsFitting (history : List Entry) (l : LeftState) : Type 0 where
   pub part : l.log ≡ part history l.run.0
   -- above run 0 its component and arguments are those of its Start that was replied Ok, none if there is no such Start
   pub started : 0 < l.run.0 → l.started ≡ start_of (reverse history) l.run.0
-  -- the log of a run that was never started is empty
-  pub unstarted : comp_of (reverse history) l.run.0 ≡ None → l.log ≡ []
 
 -- what came back is whole
 pub record IsWhole (n : ℕ) (history : List Entry) (lefts : List LeftState) : Type 0 where
@@ -33,21 +31,20 @@ pub record IsWhole (n : ℕ) (history : List Entry) (lefts : List LeftState) : T
 abbrev pub merged : List Entry → List LeftState → List Entry
 merged history lefts = merge history (map (λ l. record { run = l.run; comp = record { 0 = 0 }; entries = l.log }) lefts)
 
--- The word of a run agrees with the run's log. If it was begun, it was closed, and its close counted what it was begun
--- with and exactly the settings of the log that were replied Ok.
+-- the word was closed, and its close counted what it was begun with and exactly the settings of this log that were replied Ok
+abbrev pub Counts : Record → List Entry → Type 0
+Counts (Closed carried counted) log = given counted ≡ worst_answer carried (answers_in log)
+Counts _ log = ⊥
+
+-- the word of a run agrees with the run's log: if it was begun, it was closed, and counted the log
 abbrev pub Agrees : Record → List Entry → Type 0
 Agrees Unbegun log = Unit {0}
-Agrees (Closed carried counted) log = given counted ≡ worst_answer carried (answers_in log)
-Agrees _ log = ⊥
-
--- the word of the run that left this agrees with its log
-pub record IsAgreed (words : List Record) (l : LeftState) : Type 0 where
-  pub agrees : Agrees (record_at words l.run.0) l.log
+Agrees r log = Counts r log
 
 -- what came back of an open case closes it
 pub record IsMerged (b : OpenCase) (lefts : List LeftState) : Type 0 where
   -- the word of each run agrees with its log
-  pub agreed : All (IsAgreed b.words) lefts
+  pub agreed : All (λ l. Agrees (record_at b.words l.run.0) l.log) lefts
   -- each reply of the merged history is the component table's
   pub legal : IsLegal b.behaviours (reverse (merged b.history lefts))
   -- what came back is whole by the merged history

@@ -1,5 +1,5 @@
 -- The answers that the hand of a pass had, by the verdict entries of its log.
-use Rattle.std.specs.Prelude.{ℕ, ◌≡◌, true, List, [], ◌∷◌, ◌++◌, length, All}
+use Rattle.std.specs.Prelude.{ℕ, ◌≡◌, true, List, [], ◌∷◌, flat_map, length, All}
 use Rattle.tc_rules.specs.Prelude.{Verdict, Entry, Op, Reply, is_verdict_call, UserVerdict}
 use Rattle.tc_board.specs.{declared.answer.Answer.Answer, declared.answer.Answer.TheVariants.{Found, Met, Shut, Taken}, Prelude.HandView}
 
@@ -22,8 +22,7 @@ answer_in _ _ = []
 
 -- the same for the entries of a log, in their order
 abbrev pub answers_in : List Entry → List Answer
-answers_in [] = []
-answers_in (e ∷ log) = answer_in e.op e.reply ++ answers_in log
+answers_in log = flat_map (λ e. answer_in e.op e.reply) log
 
 -- a hand of this run, which met its word and then had the answers of this log's verdict entries, one for each of them
 pub record IsHandOf (hand : HandView) (run : ℕ) (log : List Entry) : Type 0 where

@@ -7,7 +7,7 @@ use Rattle.std.specs.{Prelude.{ℕ, zero, suc, ◌++◌, ◌∷◌, ◌≡◌, �
 use Rattle.tc_entry.specs.declared.limits.TheConstants.{BEHAVIOURS}
 use Rattle.tc_rules.specs.{declared.{awaited.Awaited.Awaited, closed.CloseFault.CloseFault, run_log.RunLog.RunLog}, Prelude.{Comp, Entry, Op, Reply, IsLegal, answer, comp_of, ends_case, started_on, waiting, part, is_by, is_other, is_verdict_call, log_of, merge, Run, UserVerdict, is_over, is_parked, start, Kept, StandsFor, Target, given, ends_pass}}
 use Rattle.tc_board.specs.{Prelude.{HandView, answered, worst_answer}, declared.{answer.Answer.Answer, record.Record.{Record, TheVariants.Closed}}}
-use Rattle.tc_book.specs.{Closing.{IsOneEach, IsWhole, merged}, OneCase.all_started, Hands.{answer_in, answers_in}, OpenCase.{AreOthers, OpenCase, WouldPark, has_leave, has_wake, open_past, reply_to, start_of}, Passes.LeftState, Words.WordsAgree, declared.{logged_book.Started.Started, places.Places.Places, until.{Lack.Lack, Until.Until}}}
+use Rattle.tc_book.specs.{Closing.{IsOneEach, IsWhole, merged}, OneCase.all_started, Hands.{answer_in, answers_in}, OpenCase.{AreOthers, OpenCase, WouldPark, open_past, places_at, reply_to, start_of}, Passes.LeftState, Words.WordsAgree, declared.{logged_book.Started.Started, places.Places.Places, until.{Lack.Lack, Until.Until}}}
 
 -- this was left of run b
 abbrev pub is_left_of : ℕ → LeftState → Bool
@@ -16,11 +16,6 @@ is_left_of b l = l.run.0 == b
 -- the log of a run that left; the merge asks only for its run and its entries
 abbrev pub run_log : LeftState → RunLog
 run_log l = record { run = l.run; comp = record { 0 = 0 }; entries = l.log }
-
--- the word was closed, and its close counted the carried verdict and exactly the settings of this log that were taken
-abbrev pub Counts : Record → List Entry → Type 0
-Counts (Closed carried counted) log = given counted ≡ worst_answer carried (answers_in log)
-Counts _ log = ⊥
 
 -- some entry of this log ended the pass on this component
 abbrev pub ended_by : Comp → List Entry → Bool
@@ -223,8 +218,8 @@ wakes b run = newest_wakes (open_past b) run.0 || parked_goes_on b run (waiting 
 -- the run lacks this by the book: no place is kept for its Wake, or for its leaving; or it was started, so its word is what it
 -- waits for
 abbrev pub lacks : OpenCase → Run → Lack → Bool
-lacks b run Lack.PlaceForWake = not (has_wake b run)
-lacks b run Lack.PlaceForLeaving = not (has_leave b run)
+lacks b run Lack.PlaceForWake = not (places_at b.places run).wake
+lacks b run Lack.PlaceForLeaving = not (places_at b.places run).leave
 lacks b run Lack.Word = is_some (start_of (open_past b) run.0)
 
 -- a ticket of this run is answered so by the case: by its start, or by none if the case is over without one
@@ -235,7 +230,7 @@ pub record IsAwaitedIn (b : OpenCase) (run : Run) (start : Option (Comp × List 
 
 -- the run's Wake would be parked again, if a place is kept for it
 abbrev pub StaysParked : OpenCase → Run → Bool → Target → Type 0
-StaysParked b run killed target = has_wake b run ≡ true → WouldPark b run killed target
+StaysParked b run killed target = (places_at b.places run).wake ≡ true → WouldPark b run killed target
 
 -- the setting of an entry, if it was replied Ok
 abbrev pub setting_in : Op → Reply → List UserVerdict

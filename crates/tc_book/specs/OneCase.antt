@@ -7,17 +7,12 @@ abbrev pub all_started : List Entry → Bool
 all_started [] = true
 all_started (e ∷ past) = is_some (comp_of past e.caller.0) && all_started past
 
--- no entry starts a run that was started before it
-abbrev pub AreStartedOnce : List Entry → Type 0
-AreStartedOnce [] = Unit {0}
-AreStartedOnce (e ∷ past) = ((run : Run) → started e ≡ Some run → comp_of past run.0 ≡ None) × AreStartedOnce past
-
 -- the history and the logs come from one case
 pub record AreOfOneCase (history : List Entry) (logs : List RunLog) : Type 0 where
+  -- no entry starts a run that was started before it
+  pub once : (run : Run) (later earlier : List Entry) (e : Entry) → reverse history ≡ later ++ e ∷ earlier → started e ≡ Some run → comp_of earlier run.0 ≡ None
   -- each entry of the history is by a run that was started before it
   pub started : all_started (reverse history) ≡ true
-  -- no run is started twice
-  pub once : AreStartedOnce (reverse history)
   -- the log of a run that was never started is empty
   pub unstarted : (b : ℕ) → comp_of (reverse history) b ≡ None → log_of logs b ≡ []
   -- each entry of a log is by its run

@@ -28,17 +28,9 @@ reply_to b run op = answer b.behaviours (open_past b) run.0 op
 abbrev pub with_entry : OpenCase → Run → Op → Reply → List Entry
 with_entry b run op reply = b.history ++ record { caller = run; op = op; reply = reply } ∷ []
 
--- the places that are kept for a run: none for one that does not exist
+-- the places that are kept for a run, for its leaving and for the Wake of its parked wait: none for one that does not exist
 abbrev pub places_at : List Places → Run → Places
 places_at ps run = slice_index_or ps run.0 (record { leave = false; wake = false })
-
--- a place is kept for the leaving of a run
-abbrev pub has_leave : OpenCase → Run → Bool
-has_leave b run = (places_at b.places run).leave
-
--- a place is kept for the Wake of a run's parked wait
-abbrev pub has_wake : OpenCase → Run → Bool
-has_wake b run = (places_at b.places run).wake
 
 -- the places once a call of the run got this reply: if it is parked, one is kept for its Wake
 abbrev pub places_after : OpenCase → Run → Reply → List Places

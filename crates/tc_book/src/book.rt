@@ -4,7 +4,7 @@ ghost use Rattle.tc_entry.specs.declared.limits.TheConstants.{BEHAVIOURS};
 ghost use Rattle.tc_rules.specs.Prelude.{IsLegal, is_verdict_call};
 ghost use Rattle.tc_board.specs.Prelude.{new_keeper};
 ghost use Rattle.tc_rules.specs.History as history;
-ghost use Rattle.tc_book.specs.{Inside.{start_at, opening_place}, OpenCase.{AreOthers, WouldPark, has_leave, has_wake, open_past, places_after, reply_to, with_entry, without_leave, without_wake}, Words.{StayClosed, WordsAgree, record_at}};
+ghost use Rattle.tc_book.specs.{Inside.{start_at, opening_place}, OpenCase.{AreOthers, WouldPark, open_past, places_after, places_at, reply_to, with_entry, without_leave, without_wake}, Words.{StayClosed, WordsAgree, record_at}};
 ghost use Rattle.tc_book.specs.OpenCase as cases;
 
 mod closing;
@@ -156,8 +156,8 @@ impl Book {
     pub fn wake(&mut self, run: Run, killed: bool, target: Target) -> Option<Reply>
         ensures behaviours { self.new.behaviours ≡ self.old.behaviours }
         ensures none { IfNone result (self.new ≡ self.old) }
-        ensures asleep { IfNone result (has_wake self.old run ≡ true → WouldPark self.old run killed target) }
-        ensures kept { OnSome result (IsTrue (has_wake self.old run)) }
+        ensures asleep { IfNone result ((places_at self.old.places run).wake ≡ true → WouldPark self.old run killed target) }
+        ensures kept { OnSome result (IsTrue (places_at self.old.places run).wake) }
         ensures awake { IfSome result (λ r. r ≢ Reply.Parked) }
         ensures reply { IfSome result (λ r. r ≡ reply_to self.old run (Op.Wake killed target)) }
         ensures history { IfSome result (λ r. self.new.history ≡ with_entry self.old run (Op.Wake killed target) r) }
@@ -185,8 +185,8 @@ impl Book {
     pub fn leave(&mut self, run: Run, ended: bool) -> Option<Option<Reply>>
         ensures behaviours { self.new.behaviours ≡ self.old.behaviours }
         ensures none { IfNone result (self.new ≡ self.old) }
-        ensures gone { IfNone result (IsFalse (has_leave self.old run)) }
-        ensures kept { OnSome result (IsTrue (has_leave self.old run)) }
+        ensures gone { IfNone result (IsFalse (places_at self.old.places run).leave) }
+        ensures kept { OnSome result (IsTrue (places_at self.old.places run).leave) }
         ensures places { OnSome result (self.new.places ≡ without_leave self.old run) }
         ensures quiet { IfSome result (λ f. IfNone f (IsTrue ended × (self.new.history ≡ self.old.history))) }
         ensures finish { IfSome result (λ f. IfSome f (λ _. IsFalse ended)) }
@@ -225,7 +225,7 @@ impl Book {
 
     /// Whether a place is still kept for the leaving of a run.
     pub(crate) fn has_place(&self, run: Run) -> bool
-        ensures { result ≡ has_leave self.now run }
+        ensures { result ≡ (places_at self.now.places run).leave }
     {
         places_of(&self.places, run).leave
     }

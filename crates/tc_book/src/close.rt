@@ -1,6 +1,6 @@
 //! Whether what came back of a case is whole.
 ghost use Rattle.std.specs.Prelude.{◌≡◌, ◌↔◌, ℕ, ◌<◌, [], None, All, IsTrue, count_by};
-ghost use Rattle.tc_book.specs.{Closing.{Agrees, IsAgreed, IsOneEach}, Inside.{is_left_of, ArePlaced, IsPlaced}};
+ghost use Rattle.tc_book.specs.{Closing.{Agrees, IsOneEach}, Inside.{is_left_of, ArePlaced, IsPlaced}, Words.record_at};
 
 use crate::counting::counts;
 use crate::left::Left;
@@ -76,14 +76,14 @@ fn agrees(word: Record, log: &[Entry]) -> bool
 
 /// Whether the word of a run that left agrees with its log.
 fn is_agreed(words: &Words, left: &Left) -> bool
-    ensures { IsTrue result ↔ IsAgreed words.now left.now }
+    ensures { IsTrue result ↔ Agrees (record_at words.now left.now.run.0) left.now.log }
 {
     agrees(words.record_of(left.run()), left.log())
 }
 
 /// Whether the word of each run agrees with the log that came back.
 pub(crate) fn all_agreed(words: &Words, lefts: &[Left]) -> bool
-    ensures { IsTrue result ↔ All (IsAgreed words.now) lefts.now }
+    ensures { IsTrue result ↔ All (λ l. Agrees (record_at words.now l.run.0) l.log) lefts.now }
 {
     lefts.iter().all(|left| is_agreed(words, left))
 }

@@ -1,7 +1,7 @@
 //! What the close of a word counted, and the log of its run.
 ghost use Rattle.std.specs.Prelude.{◌≡◌, ◌↔◌, IsTrue, map};
 ghost use Rattle.tc_rules.specs.Prelude.{worst, given};
-ghost use Rattle.tc_book.specs.Inside.{Counts, settings};
+ghost use Rattle.tc_book.specs.{Closing.Counts, Inside.settings};
 
 use tc_board::Record;
 use tc_entry::{Entry, Op, Reply};

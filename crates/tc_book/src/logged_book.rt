@@ -3,7 +3,7 @@ ghost use Rattle.std.specs.Prelude.{◌≡◌, ◌≢◌, ◌||◌, true, false,
 ghost use Rattle.tc_rules.specs.Prelude.{is_ended, is_fault, is_ok, is_verdict_call};
 ghost use Rattle.tc_board.specs.{Prelude.answered, declared.answer.Answer.TheVariants.Met};
 ghost use Rattle.tc_rules.specs.History as history;
-ghost use Rattle.tc_book.specs.{Inside.{IsAwaitedIn, Replies.suits, StaysParked}, OpenCase.{NobodyWakes, has_leave, open_past, places_after, with_entry, without_leave, without_wake}};
+ghost use Rattle.tc_book.specs.{Inside.{IsAwaitedIn, Replies.suits, StaysParked}, OpenCase.{NobodyWakes, open_past, places_after, places_at, with_entry, without_leave, without_wake}};
 ghost use Rattle.tc_book.specs.OpenCase as cases;
 
 pub(crate) mod log;
@@ -111,7 +111,7 @@ impl Book {
         ended: bool,
     ) -> Option<(Option<Reply>, WakeUp, GivenUp)>
         ensures none { IfNone result (self.new ≡ self.old) }
-        ensures gone { IfNone result (IsFalse (has_leave self.old run)) }
+        ensures gone { IfNone result (IsFalse (places_at self.old.places run).leave) }
         ensures ended { IfSome result (λ f. is_none f.0 ≡ ended) }
         ensures silent { IfSome result (λ f. f.1.anyone ≡ false → NobodyWakes self.old self.new) }
         ensures given_up { IfSome result (λ f. f.2.run ≡ run) }
@@ -129,7 +129,7 @@ impl Book {
         ensures history { self.new.history ≡ self.old.history }
         ensures given_up { IfSome result (λ g. g.run ≡ unstarted.run) }
         ensures places { OnSome result (self.new.places ≡ without_leave self.old unstarted.run) }
-        ensures gone { IfNone result (IsFalse (has_leave self.old unstarted.run)) }
+        ensures gone { IfNone result (IsFalse (places_at self.old.places unstarted.run).leave) }
         ensures none { IfNone result (self.new ≡ self.old) }
     {
         let run = unstarted.run();

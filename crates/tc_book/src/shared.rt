@@ -2,7 +2,7 @@
 ghost use Rattle.std.specs.{Prelude.{◌≡◌, ◌≢◌, ◌≤◌, ◌<◌, ◌+◌, ◌||◌, true, false, IfOk, OnOk, OnErr, IfErr, IfSome, IfNone, IsTrue, Err, All, is_none}, Sync.Mutex.mutex_guard_value};
 ghost use Rattle.tc_rules.specs.Prelude.{IsOneHistory, IsLegal, is_ended, is_fault, is_ok, is_verdict_call};
 ghost use Rattle.tc_board.specs.{Prelude.answered, declared.answer.Answer.TheVariants.Met};
-ghost use Rattle.tc_book.specs.{Closing.IsAgreed, Closing.IsMerged, Closing.IsOneEach, Closing.merged, Inside.Waiting.waiting_places, Inside.goes_on, Inside.is_closed, Inside.with_own, OpenCase.AreOthers, OpenCase.has_leave, OpenCase.open_past, Inside.Replies.suits};
+ghost use Rattle.tc_book.specs.{Closing.Agrees, Closing.IsMerged, Closing.IsOneEach, Closing.merged, Inside.Waiting.waiting_places, Inside.goes_on, Inside.is_closed, Inside.with_own, OpenCase.AreOthers, OpenCase.places_at, OpenCase.open_past, Inside.Replies.suits, Words.record_at};
 
 use crate::book::Book;
 use crate::conditions::Conditions;
@@ -43,7 +43,7 @@ impl Look<'_> {
     /// Whether a place in the history is still kept for the leaving of a run: until its behaviour has left, or its ticket
     /// has found the case over.
     pub fn has_place(&self, run: Run) -> bool
-        ensures { result ≡ has_leave self.now run }
+        ensures { result ≡ (places_at self.now.places run).leave }
     {
         self.book.has_place(run)
     }
@@ -54,7 +54,8 @@ impl Look<'_> {
         ensures whole { IfOk result (λ _. IsMerged self.now lefts.items) }
         ensures torn { IfErr result (λ f. f ≡ CloseFault.Torn → IsMerged self.now lefts.items → ⊥) }
         ensures runs { result ≡ Err CloseFault.NoMemory → IsOneEach self.now.behaviours lefts.items }
-        ensures words { result ≡ Err CloseFault.NoMemory → All (IsAgreed self.now.words) lefts.items }
+        ensures words { result ≡ Err CloseFault.NoMemory
+            → All (λ l. Agrees (record_at self.now.words l.run.0) l.log) lefts.items }
         ensures behaviours { IfOk result (λ c. c.behaviours ≡ self.now.behaviours) }
         ensures history { IfOk result (λ c. c.history ≡ merged self.now.history lefts.items) }
         ensures report { IfOk result (λ c. IsOneHistory c) }

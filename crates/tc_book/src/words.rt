@@ -50,12 +50,12 @@ fn opening_of(word: Record) -> UserVerdict
     }
 }
 
-fn closing(word: Record) -> UserVerdict
+fn closing(word: Record) -> Option<UserVerdict>
     ensures { result ≡ rules.closing word }
 {
     match word {
-        Record::Closed(_, counted) => counted,
-        _ => UserVerdict::None,
+        Record::Closed(_, counted) => Some(counted),
+        _ => None,
     }
 }
 
@@ -129,7 +129,10 @@ impl Words {
     fn left_by(&self, last: Option<Run>) -> UserVerdict
         ensures { result ≡ inside.left_by self.now last }
     {
-        last.map_or(UserVerdict::None, |run| closing(self.record_of(run)))
+        match last {
+            Some(run) => closing(self.record_of(run)).unwrap_or(UserVerdict::None),
+            None => UserVerdict::None,
+        }
     }
 
     /// Begins the word of a run.

@@ -1,34 +1,28 @@
 -- The options among the words, as the matches hold them.
-use Rattle.std.{proofs.{Common.{ℕ, ◌≡◌, ◌∙◌, ◌+◌, ◌<◌, ◌++◌, ◌∷◌, refl, All, ap, get_or, length, map, subst, sym, take, Option, Some, None, List, []}, lemmas.List.{Elements.All-push, get_or-map, length-map, map-append, take_more}}, specs.{Prelude.{find, option_map, option_and_then, unwrap_or, ◌||◌, Bool, false, if◌then◌else◌, is_none, true}, Borrow.Bor, List.list_any, Str.bytes_eq}}
-use Rattle.clap.{specs.{Facts.Entry, Matches.{first_value, matched_of, raw_values}, Walk.{Row, Text, first_of, row_of, rows_of, texts}, declared.{parser.matches.{Found.Found, MatchedArg.MatchedArg}, error.kind.ErrorKind.TheVariants.{ArgumentConflict, MissingRequiredArgument}}}, proofs.WalkLemmas.{find_row, first_value-rows, list_any-map, raw_values-rows}}
+use Rattle.std.{proofs.{Common.{ℕ, ◌≡◌, ◌∙◌, ◌+◌, ◌<◌, ◌++◌, ◌∷◌, refl, All, ap, get_or, length, map, subst, sym, take, Option, Some, None, List, []}, lemmas.List.{Elements.{All-cons, All-nil, All-push}, get_or-map, length-map, map-append, take_more}}, specs.{Prelude.{option_map, option_and_then, unwrap_or, ◌&&◌, ◌||◌, Bool, false, if◌then◌else◌, is_none, is_some, true}, Borrow.Bor, Option.option_map_or}}
+use Rattle.clap.{specs.{Facts.explicit_source, Matches.{first_value, matched_of, raw_values}, Takes.is_given, Walk.{Row, Text, all_of, first_of, rows_of, texts}, declared.{parser.matches.{Found.Found, MatchedArg.MatchedArg}, error.kind.ErrorKind.TheVariants.{ArgumentConflict, MissingRequiredArgument}}}, proofs.{TakesLemmas.present_row, WalkLemmas.{first_value-rows, raw_values-rows}}}
 use Rattle.tc_entry.specs.Prelude.{IsPattern}
-use Rattle.tc_command.specs.{Asked.{lacks_script, option_faults, option_values, report_form_of}, declared.command.Subcommand.Subcommand}
+use Rattle.tc_command.specs.{Asked.{HasBadWord, IsGoodWord, lacks_script, option_faults, report_form_of}, Inside.IsBadInTurn, declared.{command.Subcommand.Subcommand, word.WordFault.{WordFault, TheVariants.{Only, Progress, Shard, States, StopOn, Suite}}}}
 
--- the source of an option's value, by its row
-pub source_of : (f : Found) (id : Text) → option_and_then (λ (a : MatchedArg). a.source) (matched_of f id)
-    ≡ option_and_then (λ (r : Row). r.source) (find (λ (r : Row). bytes_eq r.id id) (rows_of f))
-source_of f id = go (find (λ (e : Entry). bytes_eq e.0.now id) f.entries.items) ∙ ap (option_and_then (λ (r : Row). r.source)) (sym (find_row f.entries.items id))
+-- whether an option is given, by its value's source
+pub given_of : (f : Found) (id : Text) → is_given id (rows_of f) ≡ (is_some (matched_of f id) && explicit_source (option_and_then (λ (a : MatchedArg). a.source) (matched_of f id)))
+given_of f id = sym (present_row f id) ∙ go (matched_of f id)
   where
-    go : (o : Option Entry) → option_and_then (λ (a : MatchedArg). a.source) (option_map (λ (e : Entry). e.1) o)
-        ≡ option_and_then (λ (r : Row). r.source) (option_map row_of o)
+    go : (o : Option MatchedArg) → option_map_or (λ a. explicit_source a.source) o false ≡ (is_some o && explicit_source (option_and_then (λ a. a.source) o))
     go None = refl
-    go (Some e) = refl
+    go (Some a) = refl
 
 -- the values of an option, by its row
-pub words_are : (f : Found) (id : Text) (ws : List (Bor Text)) → option_map raw_values (matched_of f id) ≡ Some (texts ws) → texts ws ≡ option_values id (rows_of f)
+pub words_are : (f : Found) (id : Text) (ws : List (Bor Text)) → option_map raw_values (matched_of f id) ≡ Some (texts ws) → texts ws ≡ unwrap_or (all_of id (rows_of f)) []
 words_are f id ws is = ap (λ o. unwrap_or o []) (sym is ∙ raw_values-rows f id)
 
 -- without a row there is none
-pub no_words : (f : Found) (id : Text) → option_map raw_values (matched_of f id) ≡ None → [] ≡ option_values id (rows_of f)
+pub no_words : (f : Found) (id : Text) → option_map raw_values (matched_of f id) ≡ None → [] ≡ unwrap_or (all_of id (rows_of f)) []
 no_words f id is = ap (λ o. unwrap_or o []) (sym is ∙ raw_values-rows f id)
 
 -- the first value of an option, by its row
 pub first_word : (f : Found) (id : Text) → first_value f id ≡ first_of id (rows_of f)
 first_word f id = first_value-rows f id
-
--- whether a test passes for what is made of one of the elements
-pub any_made : {X Y : Type 0} (p : Y → Bool) (f : X → Y) (xs : List X) {b : Bool} → b ≡ list_any (λ x. p (f x)) xs → b ≡ list_any p (map f xs)
-any_made p f xs is = is ∙ list_any-map p f xs
 
 -- one more word
 pub words_more : (words : List (Bor Text)) (i : ℕ) (d : Bor Text) → i < length words
@@ -55,3 +49,16 @@ has_form s rows is none = go _ (lacks_script rows) (is_none (report_form_of rows
     go false true b d h = absurd cc
     go false false true d h = absurd cc
     go false false false d h = refl
+
+-- the value that was refused after others were read is the first in their order
+module _ (rows : List Row) where
+  abbrev Good : WordFault → Type 0
+  Good = IsGoodWord rows
+
+  pub first_bad : (fault : WordFault) → IsBadInTurn rows fault → HasBadWord rows fault
+  first_bad Shard bad = ([], Only ∷ Suite ∷ StopOn ∷ Progress ∷ States ∷ [], refl, All-nil Good, bad)
+  first_bad Only bad = (Shard ∷ [], Suite ∷ StopOn ∷ Progress ∷ States ∷ [], refl, All-cons Good Shard [] bad.0 (All-nil Good), bad.1)
+  first_bad Suite bad = (Shard ∷ Only ∷ [], StopOn ∷ Progress ∷ States ∷ [], refl, All-cons Good Shard (Only ∷ []) bad.0 (All-cons Good Only [] bad.1 (All-nil Good)), bad.2)
+  first_bad StopOn bad = (Shard ∷ Only ∷ Suite ∷ [], Progress ∷ States ∷ [], refl, All-cons Good Shard (Only ∷ Suite ∷ []) bad.0 (All-cons Good Only (Suite ∷ []) bad.1 (All-cons Good Suite [] bad.2 (All-nil Good))), bad.3)
+  first_bad Progress bad = (Shard ∷ Only ∷ Suite ∷ StopOn ∷ [], States ∷ [], refl, All-cons Good Shard (Only ∷ Suite ∷ StopOn ∷ []) bad.0 (All-cons Good Only (Suite ∷ StopOn ∷ []) bad.1 (All-cons Good Suite (StopOn ∷ []) bad.2 (All-cons Good StopOn [] bad.3 (All-nil Good)))), bad.4)
+  first_bad States bad = (Shard ∷ Only ∷ Suite ∷ StopOn ∷ Progress ∷ [], [], refl, All-cons Good Shard (Only ∷ Suite ∷ StopOn ∷ Progress ∷ []) bad.0 (All-cons Good Only (Suite ∷ StopOn ∷ Progress ∷ []) bad.1 (All-cons Good Suite (StopOn ∷ Progress ∷ []) bad.2 (All-cons Good StopOn (Progress ∷ []) bad.3 (All-cons Good Progress [] bad.4 (All-nil Good))))), bad.5)

@@ -1,5 +1,5 @@
 -- What the words are read as, by what the parse answered and what the options ask for.
-use Rattle.std.{proofs.Common.{◌≡◌, ◌∙◌, ◌⊎◌, refl, true, sym, ap, subst, Bool, List, [], Result, Ok, Err, Option, None, Some, Box, Global}, specs.{Prelude.{find, option_map, unwrap_or}, Box.box_value, Result.IsErrAnd, Str.bytes_eq}}
+use Rattle.std.{proofs.Common.{◌≡◌, ◌∙◌, ◌⊎◌, refl, true, sym, ap, subst, Bool, List, [], Result, Ok, Err, Option, None, Some, Box, Global}, specs.{Prelude.{codes, find, option_map, unwrap_or}, Borrow.Bor, Box.box_value, Result.IsErrAnd, Str.bytes_eq}}
 use Rattle.clap.{specs.{Kinds.{Kinds}, Words.{App, HasKind, HasMatchesOf, IsAmong, Row, Text, fault_of, found_of, is_simple, is_simple_and_free, kind_of, matches_of, rows_of, subcommand_name_of, subcommand_of, subcommand_rows, subcommand_rows_of}, declared.{error.{Error.Error, kind.ErrorKind.TheVariants.OutOfMemory}, parser.matches.{ArgMatches.{ArgMatches, TheViews.{out-ArgMatches, out-SubCommand}}, SubCommand.SubCommand}}}, proofs.FaultLemmas.{first_fails}}
 use Rattle.tc_command.specs.{Asked.{IsReadAs, command_line_of}, Command.{cases_app, offer_of, subcommands, ttrun}, declared.{command.Subcommand.Subcommand, read.Refused.Refused, task.Task.Task}}
 
@@ -15,18 +15,32 @@ no_fault words is fit none = carried (λ app. fault_of app words) is_simple_and_
 
 -- the subcommand and its options are those of the words
 pub line_found : {command : App} (words : List Text) (m : ArgMatches) → command ≡ ttrun → HasMatchesOf command words m
-    → command_line_of (subcommand_rows_of m) ≡ command_line_of (subcommand_of ttrun words)
-line_found words m is found = ap command_line_of (carried (λ app. subcommand_of app words) is_simple is refl (λ f. (found f).1))
+    → command_line_of (rows_of (found_of m)) (subcommand_rows_of m) ≡ command_line_of (matches_of ttrun words) (subcommand_of ttrun words)
+line_found words m is found =
+    ap (λ rows. command_line_of rows (subcommand_rows_of m)) (carried (λ app. matches_of app words) is_simple is refl (λ f. (found f).0))
+    ∙ ap (command_line_of (matches_of ttrun words)) (carried (λ app. subcommand_of app words) is_simple is refl (λ f. (found f).1))
+
+-- the name of a subcommand and its options, in a pair
+abbrev pub named : Bor Text × Bor ArgMatches → Text × List Row
+named p = (p.0.now, rows_of (found_of p.1.now))
+
+-- the line of a name and its options
+abbrev pub line_of : Text × List Row → Subcommand × List Row
+line_of p = (unwrap_or (find (λ s. bytes_eq (offer_of s).0 p.0) subcommands) Subcommand.Run, p.1)
 
 -- the subcommand of the matches and its options, by their parts
-pub line_named : (m : ArgMatches) (s : Subcommand) (name : Text) (rows : List Row) → s ≡ unwrap_or (find (λ s. bytes_eq (offer_of s).0 name) subcommands) Subcommand.Run → Some name ≡ subcommand_name_of m
-    → Some rows ≡ option_map (λ p. p.1) (subcommand_rows_of m) → (s, rows) ≡ command_line_of (subcommand_rows_of m)
-line_named m s name rows is = go (out-ArgMatches m).subcommand
+pub line_named : (m : ArgMatches) (o : Option (Bor Text × Bor ArgMatches)) (d p : Bor Text × Bor ArgMatches) (s : Subcommand) → named d ≡ (codes "run", rows_of (found_of m))
+    → option_map (λ p. p.0.now) o ≡ subcommand_name_of m → option_map (λ p. rows_of (found_of p.1.now)) o ≡ option_map (λ p. p.1) (subcommand_rows_of m) → p ≡ unwrap_or o d
+    → s ≡ (line_of (named p)).0 → (s, (named p).1) ≡ command_line_of (rows_of (found_of m)) (subcommand_rows_of m)
+line_named m o d p s default name rows taken is = ap (λ s. (s, (named p).1)) is ∙ ap line_of (ap named taken ∙ go o (out-ArgMatches m).subcommand name rows)
   where
-    go : (sub : Option (Box SubCommand Global)) → Some name ≡ option_map (λ b. (out-SubCommand (box_value b)).name.now) sub
-        → Some rows ≡ option_map (λ p. p.1) (subcommand_rows sub) → (s, rows) ≡ command_line_of (subcommand_rows sub)
-    go None named of = cc
-    go (Some b) named of = cc
+    go : (o : Option (Bor Text × Bor ArgMatches)) (sub : Option (Box SubCommand Global)) → option_map (λ p. p.0.now) o ≡ option_map (λ b. (out-SubCommand (box_value b)).name.now) sub
+        → option_map (λ p. rows_of (found_of p.1.now)) o ≡ option_map (λ p. p.1) (subcommand_rows sub)
+        → named (unwrap_or o d) ≡ unwrap_or (subcommand_rows sub) (codes "run", rows_of (found_of m))
+    go None None name rows = default
+    go None (Some b) name rows = cc
+    go (Some p) None name rows = cc
+    go (Some p) (Some b) name rows = cc
 
 -- the options of a program with test cases of its own are those of the words
 pub rows_found : {command : App} (words : List Text) (m : ArgMatches) → command ≡ cases_app → HasMatchesOf command words m

@@ -1,7 +1,8 @@
 -- The program's command as a command line reads it: its subcommands, their options, and the values of these.
-use Rattle.std.specs.{Prelude.{Bool, List, [], ◌∷◌, ◌++◌, Some, false, true, codes, fold, map, ℕ, ◌≡◌, ◌≤◌, ◌<◌, ◌+◌, ◌^◌, if◌then◌else◌, IsSomeAnd, MatchOption, Option, None}, Fmt.decimal, List.list_any, Str.bytes_eq}
+use Rattle.std.specs.{Prelude.{List, [], ◌∷◌, ◌++◌, Some, true, codes, fold, map, option_map, ℕ, ◌≡◌, ◌≤◌, ◌<◌, ◌+◌, ◌^◌, if◌then◌else◌, IfSome, MatchOption, Option}, Fmt.decimal, List.list_any, Str.bytes_eq}
+use Prim.Native.String.{String}
 use Rattle.clap.specs.{Words.{App, Rule, Text, new_app, new_rule, with_rule, with_subcommand}, declared.builder.action.ArgAction.TheVariants.{Append, Set, SetTrue}}
-use Rattle.tc_entry.specs.Prelude.{IsShard, ShardView, Verdict, name_of}
+use Rattle.tc_entry.specs.Prelude.{IsShard, ShardView}
 use Rattle.tc_command.specs.declared.{command.Subcommand.{Subcommand, TheVariants.{Check, Explore, Model, Replay, Report, Run, Serve}}, word.WordFault.WordFault}
 
 -- an option of this name: --only takes one value each time, --progress one or none, and the four one; any other takes none
@@ -18,28 +19,27 @@ abbrev pub with_options : App → List Text → App
 with_options = fold (λ app name. with_rule app (option_rule name))
 
 -- the options of each command that reads histories: their script, which of them, and whether they may be long
-abbrev pub choosing : List Text
-choosing = map codes ("script" ∷ "only" ∷ "shard" ∷ "failed" ∷ "last" ∷ "long" ∷ [])
+abbrev pub choosing : List String
+choosing = "script" ∷ "only" ∷ "shard" ∷ "failed" ∷ "last" ∷ "long" ∷ []
 
 -- those of a run of test cases: its forms, as it finishes, how it is stopped, and which test cases
-abbrev pub run_options : List Text
-run_options =
-    map codes ("csv" ∷ "history" ∷ "evidence" ∷ "junit" ∷ "suite" ∷ "times" ∷ "live" ∷ "progress" ∷ "stop-on" ∷ "list" ∷ "only" ∷ "shard" ∷ [])
+abbrev pub run_options : List String
+run_options = "csv" ∷ "history" ∷ "evidence" ∷ "junit" ∷ "suite" ∷ "times" ∷ "live" ∷ "progress" ∷ "stop-on" ∷ "list" ∷ "only" ∷ "shard" ∷ []
 
 -- the name of a subcommand, and its options without those of explanations
-abbrev pub offer_of : Subcommand → Text × List Text
-offer_of Run = (codes "run", run_options ++ codes "failed" ∷ codes "last" ∷ [])
+abbrev pub offer_of : Subcommand → Text × List String
+offer_of Run = (codes "run", run_options ++ "failed" ∷ "last" ∷ [])
 offer_of Serve = (codes "serve", [])
-offer_of Explore = (codes "explore", map codes ("history" ∷ "evidence" ∷ "details" ∷ "locals" ∷ "states" ∷ "only" ∷ "shard" ∷ "failed" ∷ "last" ∷ []))
+offer_of Explore = (codes "explore", "history" ∷ "evidence" ∷ "details" ∷ "locals" ∷ "states" ∷ "only" ∷ "shard" ∷ "failed" ∷ "last" ∷ [])
 offer_of Check = (codes "check", choosing)
-offer_of Report = (codes "report", map codes ("text" ∷ "csv" ∷ "junit" ∷ "suite" ∷ "html" ∷ "summary" ∷ []) ++ choosing)
-offer_of Model = (codes "model", map codes ("only" ∷ "failed" ∷ "last" ∷ "long" ∷ []))
+offer_of Report = (codes "report", "text" ∷ "csv" ∷ "junit" ∷ "suite" ∷ "html" ∷ "summary" ∷ choosing)
+offer_of Model = (codes "model", "only" ∷ "failed" ∷ "last" ∷ "long" ∷ [])
 offer_of Replay = (codes "replay", [])
 
 -- the command of a subcommand: each but `serve` has also the options that say whether a fault is explained
 abbrev pub app_of_subcommand : Subcommand → App
 app_of_subcommand Serve = new_app (codes "serve")
-app_of_subcommand s = with_options (with_options (new_app (offer_of s).0) (offer_of s).1) (codes "explain" ∷ codes "no-explain" ∷ [])
+app_of_subcommand s = with_options (new_app (offer_of s).0) (map codes ((offer_of s).1 ++ "explain" ∷ "no-explain" ∷ []))
 
 -- the subcommands, in the order of the help
 abbrev pub subcommands : List Subcommand
@@ -55,31 +55,16 @@ ttrun = fold (λ app s. with_subcommand app (app_of_subcommand s).top) (with_ver
 
 -- the command of a program with test cases of its own prints its version too, and has the options of their run
 abbrev pub cases_app : App
-cases_app = with_options (with_version (new_app (codes "program"))) run_options
-
--- the value of an option names this; without a value there is nothing
-abbrev pub IsNamed : {T : Type 0} → (Text → T → Type 0) → Option Text → Option T → Type 0
-IsNamed Names word x = MatchOption word (x ≡ None) (λ w. IsSomeAnd x (Names w))
+cases_app = with_options (with_version (new_app (codes "program"))) (map codes run_options)
 
 -- the shard is that of the value, K/N in decimal: the K-th of N, and K is from 1 to N
 abbrev pub IsShardOf : Option Text → Option ShardView → Type 0
-IsShardOf = IsNamed (λ word s. (word ≡ decimal (s.place + 1) ++ (47 ∷ decimal s.shards)) × IsShard s × (s.shards < 2 ^ 32))
-
--- the stopping rule is the verdict of this name
-abbrev pub IsRuleOf : Option Text → Option Verdict → Type 0
-IsRuleOf = IsNamed (λ word v. word ≡ name_of v)
-
--- only failures are reported: if the value says so
-abbrev pub IsProgressOf : Option Text → Bool → Type 0
-IsProgressOf word only = MatchOption word (only ≡ false) (λ w. (w ≡ codes "failures") × (only ≡ true))
+IsShardOf word shard =
+    (word ≡ option_map (λ s. decimal (s.place + 1) ++ (47 ∷ decimal s.shards)) shard) × IfSome shard (λ s. IsShard s × (s.shards < 2 ^ 32))
 
 -- that many states are looked at: those that the value names, from 1 to a million; without a value a hundred thousand
 abbrev pub IsStatesOf : Option Text → ℕ → Type 0
 IsStatesOf word n = MatchOption word (n ≡ 100000) (λ w. (1 ≤ n) × (n ≤ 1000000) × (w ≡ decimal n))
-
--- the value names something
-abbrev pub IsGood : {T : Type 0} → (Option Text → T → Type 0) → Option Text → Type 0
-IsGood {T} Names word = (x : T) × Names word x
 
 -- what is said of a value that names nothing
 abbrev pub word_fault_text : WordFault → List ℕ

@@ -1,10 +1,10 @@
 //! The arguments, and the task that they ask for.
-ghost use Rattle.std.specs.Prelude.{◌≡◌, [], All, IfOk, IfErr, OnOk, Some, None, codes, false, is_none, is_some, map, option_copied, string_bytes};
+ghost use Rattle.std.specs.Prelude.{◌≡◌, [], ◌&&◌, IfOk, IfErr, OnOk, None, codes, false, is_none, is_some, map, not, option_copied, string_bytes, unwrap_or};
 ghost use Rattle.std.specs.List.{list_any};
-ghost use Rattle.clap.specs.Words.{first_of, found_of, kind_of, rows_of, subcommand_rows_of};
+ghost use Rattle.clap.specs.Takes.{is_given};
+ghost use Rattle.clap.specs.Words.{all_of, first_of, found_of, kind_of, rows_of, subcommand_rows_of};
 ghost use Rattle.clap.specs.declared.error.{Error.Error as ClapError, kind.ErrorKind.TheVariants.OutOfMemory};
-ghost use Rattle.tc_entry.specs.Prelude.{IsPattern};
-ghost use Rattle.tc_command.specs.{Asked.Asks, Asked.Chooses, Asked.IsReadAs, Asked.IsReading, Asked.command_line_of, Asked.form_of, Asked.gives_pair, Asked.is_explained, Asked.is_given, Asked.lacks_script as spec_lacks_script, Asked.option_faults, Asked.option_values, Asked.report_form_of, Command.IsGood, Command.IsShardOf, Inside.IsRefusedBy, Inside.IsTaken, Inside.IsWordRefused, Inside.given_so, Inside.needs as spec_needs, declared.command.Subcommand.TheVariants.Check, declared.command.Subcommand.TheVariants.Explore, declared.command.Subcommand.TheVariants.Report, declared.command.Subcommand.TheVariants.Run, declared.read.Refused.Refused};
+ghost use Rattle.tc_command.specs.{Asked.Asks, Asked.Chooses, Asked.IsReadAs, Asked.IsReading, Asked.command_line_of, Asked.form_of, Asked.is_explained, Asked.lacks_option, Asked.lacks_script as spec_lacks_script, Asked.option_faults, Asked.report_form_of, Inside.AreValues, Inside.IsRefusedBy, Inside.IsTaken, Inside.IsWordRefused, declared.command.Subcommand.TheVariants.Check, declared.command.Subcommand.TheVariants.Explore, declared.command.Subcommand.TheVariants.Report, declared.command.Subcommand.TheVariants.Run, declared.read.Refused.Refused};
 
 use crate::command::{Names, Subcommand, command, subcommand_named, usage_command};
 use crate::refusal::{Refusal, told_by};
@@ -16,6 +16,7 @@ use clap::parser::ValueSource;
 use clap::{ArgMatches, Error};
 use std::alloc::{AllocError, Global};
 use tc_entry::Name;
+use tc_verdict::Verdict;
 
 /// Why arguments ask for no task.
 #[derive(Drop)]
@@ -43,7 +44,7 @@ impl From<AllocError> for Refused {
 }
 
 // Options with others that exclude them. A subcommand that lacks one of them is never given both. The definition of
-// what is refused has this table and the next two from here.
+// what is refused has this table from here.
 const APART: [(&str, Names); 16] = [
     ("explain", &["no-explain"]),
     ("text", &["csv", "junit", "html", "summary"]),
@@ -63,54 +64,53 @@ const APART: [(&str, Names); 16] = [
     ("junit", &["live"]),
 ];
 
-// Options of `report` that need another.
-const HISTORY_NEEDS: [(&str, Names); 1] = [("suite", &["junit"])];
-
-// Such options of `run` and `explore`.
-const SCRIPT_NEEDS: [(&str, Names); 3] = [
-    ("suite", &["junit"]),
-    ("times", &["junit"]),
-    ("last", &["failed"]),
-];
-
 // Whether the arguments have this option.
-#[tactic(auto, using(crate::proofs::Options::source_of))]
+#[tactic(auto, using(crate::proofs::Options::given_of))]
 fn has_option(matches: &ArgMatches<'_>, id: &str) -> bool
-    ensures { result ≡ is_given (rows_of (found_of matches.now)) id.now }
+    ensures { result ≡ is_given id.now (rows_of (found_of matches.now)) }
 {
-    matches!(matches.value_source(id), Some(ValueSource::CommandLine))
+    match matches.value_source(id) {
+        Some(source) => matches!(source, ValueSource::CommandLine),
+        None => matches.contains_id(id),
+    }
 }
 
-// The first of these options that is given, or that is not.
-fn one_of(options: &ArgMatches<'_>, names: &[&'static str], given: bool) -> Option<&'static str>
-    ensures { is_some result ≡ list_any (given_so given (rows_of (found_of options.now)))
-        (map (λ n. n.now) names.now) }
+// The first of these options that is given.
+fn one_of(options: &ArgMatches<'_>, names: &[&'static str]) -> Option<&'static str>
+    ensures { is_some result ≡ list_any (λ n. is_given n.now (rows_of (found_of options.now))) names.now }
 {
     for name in names {
-        if has_option(options, name) == given {
+        if has_option(options, name) {
             return Some(name);
         }
     }
     None
 }
 
-// The first of these options that is given with one that is listed after it, or without one.
-fn given_pair(
+// The first of these options that is given with one that is listed after it, and that one.
+fn apart(
     options: &ArgMatches<'_>,
     rows: &[(&'static str, Names)],
-    with: bool,
 ) -> Option<(&'static str, &'static str)>
-    ensures { is_some result ≡ list_any (gives_pair with (rows_of (found_of options.now)))
-        (map (λ p. (p.0.now, map (λ o. o.now) p.1.now)) rows.now) }
+    ensures { is_some result ≡ list_any (λ p. is_given p.0.now (rows_of (found_of options.now))
+        && list_any (λ o. is_given o.now (rows_of (found_of options.now))) p.1.now) rows.now }
 {
     for (first, others) in rows {
         if has_option(options, first)
-            && let Some(second) = one_of(options, others, with)
+            && let Some(second) = one_of(options, others)
         {
             return Some((first, second));
         }
     }
     None
+}
+
+// Whether the first of these options is given, without the second.
+fn lacks(options: &ArgMatches<'_>, first: &str, second: &str) -> bool
+    ensures { result ≡ (is_given first.now (rows_of (found_of options.now))
+        && not (is_given second.now (rows_of (found_of options.now)))) }
+{
+    has_option(options, first) && !has_option(options, second)
 }
 
 // Whether faults are explained: if that is asked for, and at a terminal unless it is declined.
@@ -170,70 +170,83 @@ fn report_form(options: &ArgMatches<'_>, suite: Option<Name>) -> Option<ReportFo
 // The values of this option.
 #[tactic(auto, using(crate::proofs::Options::words_are, crate::proofs::Options::no_words))]
 fn words_of<'a>(options: &'a ArgMatches<'_>, id: &str) -> &'a [&'a str]
-    ensures { map (λ w. w.now) result.now ≡ option_values id.now (rows_of (found_of options.now)) }
+    ensures { map (λ w. w.now) result.now ≡ unwrap_or (all_of id.now (rows_of (found_of options.now))) [] }
 {
     options.get_strs(id).unwrap_or(&[])
 }
 
-// Which test cases the options choose.
-fn choice(alloc: Global, options: &ArgMatches<'_>) -> Result<Choice, Refusal>
-    ensures taken { IfOk result (Chooses (rows_of (found_of options.now))) }
-    ensures shard { OnOk result (IsGood IsShardOf (first_of (codes "shard") (rows_of (found_of options.now)))) }
-    ensures only { OnOk result (All IsPattern (option_values (codes "only") (rows_of (found_of options.now)))) }
+// What the values of the options name, and which test cases they choose.
+#[derive(Drop)]
+struct Values {
+    choice: Choice,
+    suite: Option<Name>,
+    stop_on: Option<Verdict>,
+    failures: bool,
+    states: usize,
+}
+
+// It, or the first value that names nothing.
+fn values_of(alloc: Global, options: &ArgMatches<'_>) -> Result<Values, Refusal>
+    ensures taken { IfOk result (AreValues (rows_of (found_of options.now))) }
     ensures refused { IfErr result (IsWordRefused (rows_of (found_of options.now))) }
 {
     let shard = word::shard(word_of(options, "shard"))?;
     let only = word::patterns(alloc, words_of(options, "only"))?;
-    Ok(Choice {
-        only,
-        shard,
-        failed: has_option(options, "failed"),
-        last: has_option(options, "last"),
-        long: has_option(options, "long"),
+    let suite = word::suite(word_of(options, "suite"))?;
+    let stop_on = word::stop_on(word_of(options, "stop-on"))?;
+    let failures = word::failures(word_of(options, "progress"))?;
+    let states = word::states(word_of(options, "states"))?;
+    Ok(Values {
+        choice: Choice {
+            only,
+            shard,
+            failed: has_option(options, "failed"),
+            last: has_option(options, "last"),
+            long: has_option(options, "long"),
+        },
+        suite,
+        stop_on,
+        failures,
+        states,
     })
 }
 
 // What the options of `run` ask for.
-fn run_task(alloc: Global, options: &ArgMatches<'_>, at_terminal: bool) -> Result<Task, Refusal>
-    ensures taken { IfOk result (Asks at_terminal (Run, rows_of (found_of options.now))) }
-    ensures refused { IfErr result (IsWordRefused (rows_of (found_of options.now))) }
+fn run_task(options: &ArgMatches<'_>, values: Values, at_terminal: bool) -> Task
+    requires { AreValues (rows_of (found_of options.now)) values }
+    ensures { Asks at_terminal (Run, rows_of (found_of options.now)) result }
 {
-    let choice = choice(alloc, options)?;
-    let suite = word::suite(word_of(options, "suite"))?;
-    let stop_on = word::stop_on(word_of(options, "stop-on"))?;
-    let failures = word::failures(word_of(options, "progress"))?;
     let explains = explains(options, at_terminal);
+    let choice = values.choice;
     if has_option(options, "list") {
-        return Ok(Task::List { choice, explains });
+        return Task::List { choice, explains };
     }
-    Ok(Task::Run(RunOptions {
-        form: form(options, suite),
+    Task::Run(RunOptions {
+        form: form(options, values.suite),
         times: has_option(options, "times"),
         live: has_option(options, "live"),
         progress: has_option(options, "progress"),
-        failures,
-        stop_on,
+        failures: values.failures,
+        stop_on: values.stop_on,
         choice,
         explains,
-    }))
+    })
 }
 
 // What the options of `explore` ask for.
-fn explore_task(alloc: Global, options: &ArgMatches<'_>, at_terminal: bool) -> Result<Task, Refusal>
-    ensures taken { IfOk result (Asks at_terminal (Explore, rows_of (found_of options.now))) }
-    ensures refused { IfErr result (IsWordRefused (rows_of (found_of options.now))) }
+fn explore_task(options: &ArgMatches<'_>, values: Values, at_terminal: bool) -> Task
+    requires { AreValues (rows_of (found_of options.now)) values }
+    ensures { Asks at_terminal (Explore, rows_of (found_of options.now)) result }
 {
-    let choice = choice(alloc, options)?;
-    let states = word::states(word_of(options, "states"))?;
-    Ok(Task::Explore(ExploreOptions {
+    Task::Explore(ExploreOptions {
         histories: has_option(options, "history"),
         evidence: has_option(options, "evidence"),
         details: has_option(options, "details"),
         locals: has_option(options, "locals"),
-        states,
-        choice,
+        states: values.states,
+        choice: values.choice,
         explains: explains(options, at_terminal),
-    }))
+    })
 }
 
 // What the options of `check` ask for, or those of `report` in this form, with what they choose.
@@ -270,18 +283,30 @@ fn judging(
 fn lacks_script(options: &ArgMatches<'_>) -> bool
     ensures { result ≡ spec_lacks_script (rows_of (found_of options.now)) }
 {
-    (has_option(options, "shard") || (has_option(options, "only") && has_option(options, "html")))
-        && !has_option(options, "script")
+    lacks(options, "shard", "script")
+        || (has_option(options, "html") && lacks(options, "only", "script"))
 }
 
-// The options of this subcommand that need another.
-fn needs(subcommand: Subcommand) -> &'static [(&'static str, Names)]
-    ensures { map (λ p. (p.0.now, map (λ o. o.now) p.1.now)) result.now ≡ spec_needs subcommand }
+// What is said of the options of this subcommand that lack one that they need.
+fn lacking(subcommand: Subcommand, options: &ArgMatches<'_>) -> Option<&'static str>
+    ensures { is_some result ≡ lacks_option subcommand (rows_of (found_of options.now)) }
 {
-    match subcommand {
-        Subcommand::Check | Subcommand::Model => &[],
-        Subcommand::Report => &HISTORY_NEEDS,
-        _ => &SCRIPT_NEEDS,
+    let reports = matches!(subcommand, Subcommand::Report);
+    let reads_script = !matches!(subcommand, Subcommand::Check | Subcommand::Model) && !reports;
+    if (reports || matches!(subcommand, Subcommand::Check)) && lacks_script(options) {
+        Some("the arguments '--shard', and '--only' with '--html', need '--script'")
+    } else if reports && report_form(options, None).is_none() {
+        Some(
+            "one of the arguments '--text', '--csv', '--junit', '--html' and '--summary' is needed",
+        )
+    } else if (reports || reads_script) && lacks(options, "suite", "junit") {
+        Some("the argument '--suite' needs '--junit'")
+    } else if reads_script && lacks(options, "times", "junit") {
+        Some("the argument '--times' needs '--junit'")
+    } else if reads_script && lacks(options, "last", "failed") {
+        Some("the argument '--last' needs '--failed'")
+    } else {
+        None
     }
 }
 
@@ -290,24 +315,17 @@ fn refuse(alloc: Global, subcommand: Subcommand, options: &ArgMatches<'_>) -> Re
     ensures none { OnOk result (option_faults (subcommand, rows_of (found_of options.now)) ≡ []) }
     ensures some { IfErr result (IsRefusedBy (subcommand, rows_of (found_of options.now))) }
 {
-    if let Some((first, second)) = given_pair(options, &APART, true) {
+    if let Some((first, second)) = apart(options, &APART) {
         let text = format!(in alloc; "the argument '--{first}' cannot be used with '--{second}'")?;
         return Err(Refusal::Options(ErrorKind::ArgumentConflict, text));
     }
-    let reads_script = matches!(subcommand, Subcommand::Check | Subcommand::Report);
-    let needs_form = matches!(subcommand, Subcommand::Report);
-    let text = if reads_script && lacks_script(options) {
-        format!(in alloc; "the arguments '--shard', and '--only' with '--html', need '--script'")?
-    } else if needs_form && report_form(options, None).is_none() {
-        format!(in alloc;
-            "one of the arguments '--text', '--csv', '--junit', '--html' and '--summary' is needed"
-        )?
-    } else if let Some((first, second)) = given_pair(options, needs(subcommand), false) {
-        format!(in alloc; "the argument '--{first}' needs '--{second}'")?
-    } else {
-        return Ok(());
-    };
-    Err(Refusal::Options(ErrorKind::MissingRequiredArgument, text))
+    match lacking(subcommand, options) {
+        Some(text) => {
+            let text = format!(in alloc; "{text}")?;
+            Err(Refusal::Options(ErrorKind::MissingRequiredArgument, text))
+        }
+        None => Ok(()),
+    }
 }
 
 /// What a subcommand with its options asks for.
@@ -322,46 +340,31 @@ pub(crate) fn subcommand_task(
     ensures refused { IfErr result (IsRefusedBy (subcommand, rows_of (found_of options.now))) }
 {
     refuse(alloc, subcommand, options)?;
-    match subcommand {
-        Subcommand::Run => run_task(alloc, options, at_terminal),
-        Subcommand::Explore => explore_task(alloc, options, at_terminal),
+    let values = values_of(alloc, options)?;
+    Ok(match subcommand {
+        Subcommand::Run => run_task(options, values, at_terminal),
+        Subcommand::Explore => explore_task(options, values, at_terminal),
         Subcommand::Report => {
-            let choice = choice(alloc, options)?;
-            let suite = word::suite(word_of(options, "suite"))?;
-            let form = report_form(options, suite);
-            Ok(judging(options, at_terminal, form, choice))
+            let form = report_form(options, values.suite);
+            judging(options, at_terminal, form, values.choice)
         }
-        Subcommand::Check => {
-            let choice = choice(alloc, options)?;
-            Ok(judging(options, at_terminal, None, choice))
-        }
-        Subcommand::Model => Ok(Task::Model {
-            choice: choice(alloc, options)?,
+        Subcommand::Check => judging(options, at_terminal, None, values.choice),
+        Subcommand::Model => Task::Model {
+            choice: values.choice,
             explains: explains(options, at_terminal),
-        }),
-        Subcommand::Replay => Ok(Task::Replay {
+        },
+        Subcommand::Replay => Task::Replay {
             explains: explains(options, at_terminal),
-        }),
-        Subcommand::Serve => Ok(Task::Serve),
-    }
+        },
+        Subcommand::Serve => Task::Serve,
+    })
 }
 
 // What the line asks for.
 fn line_task(alloc: Global, matches: &ArgMatches<'_>, at_terminal: bool) -> Result<Task, Refused>
-    ensures { IsReadAs at_terminal [] (command_line_of (subcommand_rows_of matches.now)) result }
+    ensures { IsReadAs at_terminal [] (command_line_of (rows_of (found_of matches.now)) (subcommand_rows_of matches.now)) result }
 {
-    let Some((name, options)) = matches.subcommand() else {
-        return Ok(Task::Run(RunOptions {
-            form: Form::Text,
-            times: false,
-            live: false,
-            progress: false,
-            failures: false,
-            stop_on: None,
-            choice: Choice::all(alloc),
-            explains: at_terminal,
-        }));
-    };
+    let (name, options) = matches.subcommand().unwrap_or(("run", matches));
     let subcommand = subcommand_named(name).unwrap_or(Subcommand::Run);
     match subcommand_task(alloc, subcommand, options, at_terminal) {
         Ok(task) => Ok(task),

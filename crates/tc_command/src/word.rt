@@ -1,8 +1,8 @@
 //! The values of options, and what they name.
-ghost use Rattle.std.specs.Prelude.{◌≡◌, ◌≤◌, All, IfOk, IfErr, IfSome, IfNone, OnOk, map, option_copied, ℕ};
+ghost use Rattle.std.specs.Prelude.{◌≡◌, ◌≤◌, All, Bool, IfOk, IfErr, IfSome, IfNone, None, OnOk, Option, Some, codes, if◌then◌else◌, map, option_copied, option_map, ℕ};
 ghost use Rattle.std.specs.Fmt.{decimal};
-ghost use Rattle.tc_entry.specs.Prelude.{IsName, IsPattern, ShardView};
-ghost use Rattle.tc_command.specs.{Command.IsGood, Command.IsProgressOf, Command.IsRuleOf, Command.IsShardOf, Command.IsStatesOf, Command.word_fault_text, Inside.IsBadWord, Inside.IsShardWord};
+ghost use Rattle.tc_entry.specs.Prelude.{IsName, IsPattern, ShardView, name_of};
+ghost use Rattle.tc_command.specs.{Command.IsShardOf, Command.IsStatesOf, Command.word_fault_text, Inside.IsBadWord, Inside.IsShardWord};
 
 use crate::refusal::Refusal;
 use std::alloc::{AllocError, Global};
@@ -62,7 +62,7 @@ fn read_shard(word: &str) -> Option<Shard>
 /// The shard of `--shard`, if there is one.
 pub(crate) fn shard(word: Option<&str>) -> Result<Option<Shard>, Refusal>
     ensures taken { IfOk result (IsShardOf (option_copied word.entry)) }
-    ensures refused { IfErr result (IsBadWord (IsGood IsShardOf (option_copied word.entry) → ⊥) WordFault.Shard) }
+    ensures refused { IfErr result (IsBadWord (((s : Option ShardView) × IsShardOf (option_copied word.entry) s) → ⊥) WordFault.Shard) }
 {
     match word {
         Some(word) => Ok(Some(read_shard(word).ok_or(Refusal::Word(WordFault::Shard))?)),
@@ -72,8 +72,8 @@ pub(crate) fn shard(word: Option<&str>) -> Result<Option<Shard>, Refusal>
 
 /// The verdict of `--stop-on`, if there is one.
 pub(crate) fn stop_on(word: Option<&str>) -> Result<Option<Verdict>, Refusal>
-    ensures taken { IfOk result (IsRuleOf (option_copied word.entry)) }
-    ensures refused { IfErr result (IsBadWord (IsGood IsRuleOf (option_copied word.entry) → ⊥) WordFault.StopOn) }
+    ensures taken { IfOk result (λ v. option_copied word.entry ≡ option_map name_of v) }
+    ensures refused { IfErr result (IsBadWord (((v : Option Verdict) × (option_copied word.entry ≡ option_map name_of v)) → ⊥) WordFault.StopOn) }
 {
     match word {
         Some(word) => Ok(Some(read_name(word).ok_or(Refusal::Word(WordFault::StopOn))?)),
@@ -83,8 +83,8 @@ pub(crate) fn stop_on(word: Option<&str>) -> Result<Option<Verdict>, Refusal>
 
 /// Whether `--progress` has the value `failures`.
 pub(crate) fn failures(word: Option<&str>) -> Result<bool, Refusal>
-    ensures taken { IfOk result (IsProgressOf (option_copied word.entry)) }
-    ensures refused { IfErr result (IsBadWord (IsGood IsProgressOf (option_copied word.entry) → ⊥) WordFault.Progress) }
+    ensures taken { IfOk result (λ only. option_copied word.entry ≡ (if only then Some (codes "failures") else None)) }
+    ensures refused { IfErr result (IsBadWord (((only : Bool) × (option_copied word.entry ≡ (if only then Some (codes "failures") else None))) → ⊥) WordFault.Progress) }
 {
     match word {
         Some("failures") => Ok(true),
@@ -121,7 +121,7 @@ fn read_states(word: &str) -> Option<usize>
 /// The number of states of `--states`, or the one without it.
 pub(crate) fn states(word: Option<&str>) -> Result<usize, Refusal>
     ensures taken { IfOk result (IsStatesOf (option_copied word.entry)) }
-    ensures refused { IfErr result (IsBadWord (IsGood IsStatesOf (option_copied word.entry) → ⊥) WordFault.States) }
+    ensures refused { IfErr result (IsBadWord (((n : ℕ) × IsStatesOf (option_copied word.entry) n) → ⊥) WordFault.States) }
 {
     match word {
         Some(word) => read_states(word).ok_or(Refusal::Word(WordFault::States)),

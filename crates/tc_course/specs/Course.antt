@@ -15,10 +15,6 @@ pub record CourseState : Type 0 where
   pub left : Bool
   pub wake : Option Op
 
--- at the opening run 0 is on the main component, and no other run is started
-abbrev pub opening_state : ℕ → CourseState
-opening_state b = record { comp = if b == 0 then Some (record { 0 = 0 }) else None; bound = []; called = 0; left = false; wake = None }
-
 -- after an entry of its own
 abbrev pub after_own : Entry → CourseState → CourseState
 after_own e s = record {
@@ -37,9 +33,9 @@ after_other_by own e b s = if is_some own then s else option_map_or (λ c. recor
 abbrev pub next : Entry → ℕ → CourseState → CourseState
 next e b s = if e.caller.0 == b then after_own e s else after_other_by s.comp e b s
 
--- what is known of run b
+-- what is known of run b: at the opening run 0 is on the main component, and no other run is started
 abbrev pub stand : List Entry → ℕ → CourseState
-stand [] b = opening_state b
+stand [] b = record { comp = if b == 0 then Some (record { 0 = 0 }) else None; bound = []; called = 0; left = false; wake = None }
 stand (e ∷ past) b = next e b (stand past b)
 
 -- after this reply the caller has continued, or the case is over

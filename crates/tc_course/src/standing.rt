@@ -1,5 +1,5 @@
 //! What is known of one run.
-ghost use Rattle.std.specs.Prelude.{◌≡◌, IfOk, OnOk, option_copied, slice_get};
+ghost use Rattle.std.specs.Prelude.{◌≡◌, [], IfOk, OnOk, option_copied, slice_get};
 ghost use Rattle.tc_course.specs.Inside.{call_of};
 ghost use Rattle.tc_course.specs.Course as courses;
 
@@ -42,7 +42,7 @@ fn call_at(me: Comp, bound: &[Comp], steps: &[Step], at: usize) -> Op
 impl Standing {
     /// At the opening of the case run 0 is on the main component.
     pub fn opening(alloc: Global, run: u16) -> Standing
-        ensures { result ≡ courses.opening_state run }
+        ensures { result ≡ courses.stand [] run }
     {
         Standing {
             comp: if run == 0 { Some(Comp(0)) } else { None },

@@ -1,2 +1,4 @@
 -- The lemmas of this crate.
+pub mod Lemmas
 pub mod Patterns
+pub mod Padded

@@ -1,6 +1,6 @@
 -- The places of a name that a pattern leads to.
-use Rattle.std.{proofs.{Common.{ℕ, ◌≡◌, ◌==◌, ◌+◌, ◌∙◌, ◌&&◌, ◌||◌, Bool, true, false, List, [], ◌∷◌, ap, arith, if◌then◌else◌, length, map, refl, slice_index_or, subst, suc, sym, true≢false}, lemmas.Bool.ne_eqb, lemmas.Grind.common_steps}, specs.{List.list_any, Str.bytes_eq}}
-use Rattle.tc_entry.specs.{Inside.any_of, Inside.behind, Inside.passed, Name.begins, Name.matches, Name.some_end}
+use Rattle.std.{proofs.{Common.{ℕ, ◌≡◌, ◌==◌, ◌+◌, ◌∙◌, ◌&&◌, ◌||◌, Bool, true, false, List, [], ◌∷◌, ap, arith, length, map, refl, slice_index_or, subst, suc, sym, true≢false}, lemmas.Bool.ne_eqb, lemmas.Grind.common_steps}, specs.{List.list_any, Str.bytes_eq}}
+use Rattle.tc_entry.specs.{Inside.any_of, Inside.behind, Inside.passed, Name.matches}
 
 -- ---- how many places there are
 
@@ -59,13 +59,13 @@ or_end true true false = refl
 or_end true false false = refl
 or_end false r t = refl
 
-pub behind_is : (test : List ℕ → Bool) (reached : Bool) (places : List Bool) (name : List ℕ) → length places ≡ length name + 1
-    → any_of test (behind reached places) name ≡ ((reached && some_end test name) || any_of (some_end test) places name)
-behind_is test reached [] name long = absurd (grind (arith, common_steps, long))
-behind_is test reached (place ∷ places) [] long = or_end reached place (test [])
-behind_is test reached (place ∷ places) (b ∷ bs) long =
-    ap (λ x. ((reached || place) && test (b ∷ bs)) || x) (behind_is test (reached || place) places bs (grind (arith, common_steps, long)))
-    ∙ or_with reached place (test (b ∷ bs)) (some_end test bs) (any_of (some_end test) places bs)
+pub behind_is : (rest : List ℕ) (reached : Bool) (places : List Bool) (name : List ℕ) → length places ≡ length name + 1
+    → any_of (matches rest) (behind reached places) name ≡ ((reached && matches (42 ∷ rest) name) || any_of (matches (42 ∷ rest)) places name)
+behind_is rest reached [] name long = absurd (grind (arith, common_steps, long))
+behind_is rest reached (place ∷ places) [] long = or_end reached place (matches rest [])
+behind_is rest reached (place ∷ places) (b ∷ bs) long =
+    ap (λ x. ((reached || place) && matches rest (b ∷ bs)) || x) (behind_is rest (reached || place) places bs (grind (arith, common_steps, long)))
+    ∙ or_with reached place (matches rest (b ∷ bs)) (matches (42 ∷ rest) bs) (any_of (matches (42 ∷ rest)) places bs)
 
 -- ---- another byte
 
@@ -73,29 +73,31 @@ and_with : (r same t y : Bool) → (((r && same) && t) || y) ≡ ((r && (same &&
 and_with true same t y = refl
 and_with false same t y = refl
 
-pub passed_is : (test : List ℕ → Bool) (byte : ℕ) (reached : Bool) (name : List ℕ) (places : List Bool) → length places ≡ length name + 1
-    → any_of test (passed reached byte name places) name ≡ ((reached && test name) || any_of (begins byte test) places name)
-passed_is test byte reached name [] long = absurd (grind (arith, common_steps, long))
-passed_is test byte reached [] (place ∷ places) long = sym (or_none (reached && test []) (place && false) (and_false place))
-passed_is test byte reached (b ∷ bs) (place ∷ places) long =
-    ap (λ x. (reached && test (b ∷ bs)) || x)
-    (passed_is test byte (place && (byte == b)) bs places (grind (arith, common_steps, long))
-    ∙ and_with place (byte == b) (test bs) (any_of (begins byte test) places bs))
+pub passed_is : (rest : List ℕ) (byte : ℕ) (reached : Bool) (name : List ℕ) (places : List Bool) → (byte == 42) ≡ false → length places ≡ length name + 1
+    → any_of (matches rest) (passed reached byte name places) name ≡ ((reached && matches rest name) || any_of (matches (byte ∷ rest)) places name)
+passed_is rest byte reached name [] other long = absurd (grind (arith, common_steps, long))
+passed_is rest byte reached [] (place ∷ places) other long = rw other (sym (or_none (reached && matches rest []) (place && false) (and_false place)))
+passed_is rest byte reached (b ∷ bs) (place ∷ places) other long =
+    let next = passed_is rest byte (place && (byte == b)) bs places other (grind (arith, common_steps, long)) in
+    rw other (ap (λ x. (reached && matches rest (b ∷ bs)) || x) (next ∙ and_with place (byte == b) (matches rest bs) (any_of (matches (byte ∷ rest)) places bs)))
 
 -- ---- the end
+
+some_left : (n : ℕ) → (suc n == 0) ≡ false
+some_left n = ne_eqb (suc n) 0 (omega arith)
 
 pub at_end : (places : List Bool) (name : List ℕ) → length places ≡ length name + 1
     → slice_index_or places (length name) false ≡ any_of (matches []) places name
 at_end [] name long = absurd (grind (arith, common_steps, long))
 at_end (place ∷ places) [] long = sym (and_true place)
 at_end (place ∷ places) (b ∷ bs) long =
-    at_end places bs (grind (arith, common_steps, long)) ∙ sym (ap (λ x. x || any_of (matches []) places bs) (and_false place))
+    rw (some_left (length bs)) (at_end places bs (grind (arith, common_steps, long)) ∙ sym (ap (λ x. x || any_of (matches []) places bs) (and_false place)))
 
 -- ---- a pattern without a star
 
-other_byte : (is : Bool) (x y : Bool) (rest : Bool) → (is || rest) ≡ false → (if is then x else y) ≡ y
-other_byte true x y rest none = absurd (true≢false none)
-other_byte false x y rest none = refl
+or_left : (a b : Bool) → (a || b) ≡ false → a ≡ false
+or_left true b none = none
+or_left false b none = refl
 
 or_right : (a b : Bool) → (a || b) ≡ false → b ≡ false
 or_right false b none = none
@@ -104,12 +106,11 @@ or_right true b none = absurd (true≢false none)
 -- it matches only itself
 pub matches_same : (pattern name : List ℕ) → list_any (λ b. b == 42) pattern ≡ false → matches pattern name ≡ bytes_eq pattern name
 matches_same [] [] none = refl
-matches_same [] (b ∷ bs) none = refl
-matches_same (byte ∷ bytes) [] none = other_byte (byte == 42) (some_end (matches bytes) []) false (list_any (λ b. b == 42) bytes) none
+matches_same [] (b ∷ bs) none = some_left (length bs)
+matches_same (byte ∷ bytes) [] none = rw (or_left (byte == 42) (list_any (λ b. b == 42) bytes) none) refl
 matches_same (byte ∷ bytes) (b ∷ bs) none =
     let rest = list_any (λ b. b == 42) bytes in
-    other_byte (byte == 42) (some_end (matches bytes) (b ∷ bs)) (begins byte (matches bytes) (b ∷ bs)) rest none
-    ∙ ap (λ x. (byte == b) && x) (matches_same bytes bs (or_right (byte == 42) rest none))
+    rw (or_left (byte == 42) rest none) (ap (λ x. (byte == b) && x) (matches_same bytes bs (or_right (byte == 42) rest none)))
 
 -- ---- a byte of the pattern more
 
@@ -124,14 +125,12 @@ abbrev Leads : List ℕ → List Bool → List ℕ → List ℕ → Type 0
 Leads rest places name whole = (any_of (matches rest) places name ≡ matches whole name) × (length places ≡ length name + 1)
 
 behind_leads : (rest name whole : List ℕ) (places : List Bool) → Leads (42 ∷ rest) places name whole → Leads rest (behind false places) name whole
-behind_leads rest name whole places so = (behind_is (matches rest) false places name so.1 ∙ so.0, behind_length false places ∙ so.1)
+behind_leads rest name whole places so = (behind_is rest false places name so.1 ∙ so.0, behind_length false places ∙ so.1)
 
 passed_leads : (rest name whole : List ℕ) (byte : ℕ) (places : List Bool) → (byte == 42) ≡ false → Leads (byte ∷ rest) places name whole
     → Leads rest (passed false byte name places) name whole
 passed_leads rest name whole byte places other so =
-    let at : any_of (begins byte (matches rest)) places name ≡ matches whole name =
-    subst (λ is. any_of (λ n. if is then some_end (matches rest) n else begins byte (matches rest) n) places name ≡ matches whole name) other so.0 in
-    (passed_is (matches rest) byte false name places so.1 ∙ at, passed_length false byte name places so.1)
+    (passed_is rest byte false name places other so.1 ∙ so.0, passed_length false byte name places so.1)
 
 pub next_behind : (bytes rest : List ℕ) (byte : ℕ) (name whole : List ℕ) (places given after : List Bool) → bytes ≡ byte ∷ rest → byte ≡ 42
     → given ≡ places → after ≡ behind false given → Leads bytes places name whole → Leads rest after name whole

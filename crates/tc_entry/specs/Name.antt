@@ -1,20 +1,19 @@
 -- What a name of a test case or a behaviour is, and the patterns of names; the spelling is this project's own.
-use Rattle.std.specs.{Prelude.{◌≢◌, ◌==◌, ◌||◌, ℕ, ◌≤◌, Bool, List, length, codes, IsTrue, All, IfSome, slice_get, ◌⊎◌, ◌&&◌, true, false, if◌then◌else◌, [], ◌∷◌}, Char.{is_ascii_alphabetic, is_ascii_alphanumeric}, List.list_any}
+use Rattle.std.specs.{Prelude.{◌==◌, ◌||◌, ℕ, ◌≤◌, Bool, List, length, bytes_eq, codes, false, not, nat_le, IsTrue, All, slice_get, ◌⊎◌, ◌&&◌, if◌then◌else◌, [], ◌∷◌}, Char.{is_ascii_alphabetic, is_ascii_alphanumeric}, List.{list_all, list_any}, Option.option_map_or}
 
 -- a byte that may be in a name: a letter, a digit or `_`
 abbrev pub is_name_byte : ℕ → Bool
 is_name_byte b = is_ascii_alphanumeric b || (b == 95)
 
--- a letter, and then letters, digits or `_`: 1 to 32 bytes, and no word that the grammars keep for themselves
-pub record IsName (bs : List ℕ) : Type 0 where
-  pub begins : IfSome (slice_get bs 0) (λ b. IsTrue (is_ascii_alphabetic b))
-  pub is_some : 1 ≤ length bs
-  pub is_short : length bs ≤ 32
-  pub allowed : All (λ b. IsTrue (is_name_byte b)) bs
-  pub not_all : bs ≢ codes "all"
-  pub not_any : bs ≢ codes "any"
-  pub not_mtc : bs ≢ codes "mtc"
-  pub not_self : bs ≢ codes "self"
+-- the test for a name: a letter, and then letters, digits or `_`, 1 to 32 bytes, and no word that the grammars keep for themselves
+unfoldable pub is_name : List ℕ → Bool
+is_name bs =
+    option_map_or is_ascii_alphabetic (slice_get bs 0) false && list_all is_name_byte bs && nat_le (length bs) 32
+    && not (list_any (bytes_eq bs) (codes "all" ∷ codes "any" ∷ codes "mtc" ∷ codes "self" ∷ []))
+
+-- the bytes are a name
+abbrev pub IsName : List ℕ → Type 0
+IsName bs = IsTrue (is_name bs)
 
 -- 1 to 64 bytes of names and `*`, with a `*`
 pub record IsWild (bs : List ℕ) : Type 0 where
@@ -26,18 +25,8 @@ pub record IsWild (bs : List ℕ) : Type 0 where
 abbrev pub IsPattern : List ℕ → Type 0
 IsPattern bs = IsName bs ⊎ IsWild bs
 
--- the test holds of the bytes, or of what follows some of the first of them
-abbrev pub some_end : (List ℕ → Bool) → List ℕ → Bool
-some_end test [] = test []
-some_end test (b ∷ bs) = test (b ∷ bs) || some_end test bs
-
--- this byte comes first, and the test holds of what follows it
-abbrev pub begins : ℕ → (List ℕ → Bool) → List ℕ → Bool
-begins byte test [] = false
-begins byte test (b ∷ bs) = (byte == b) && test bs
-
--- the pattern matches a name: a `*` any bytes, or none; another byte itself
+-- the pattern matches a name: a `*` nothing, or a byte and what it matches after it; another byte itself
 abbrev pub matches : List ℕ → List ℕ → Bool
-matches [] [] = true
-matches [] (b ∷ bs) = false
-matches (byte ∷ bytes) name = if byte == 42 then some_end (matches bytes) name else begins byte (matches bytes) name
+matches [] name = length name == 0
+matches (byte ∷ bytes) [] = (byte == 42) && matches bytes []
+matches (byte ∷ bytes) (b ∷ bs) = if byte == 42 then matches bytes (b ∷ bs) || matches (byte ∷ bytes) bs else (byte == b) && matches bytes bs

@@ -4,22 +4,31 @@ ghost use Rattle.tc_entry.specs.declared.limits.TheConstants.{ARGUMENTS};
 
 use crate::comp::{Comp, same_comps};
 use crate::limits::ARGUMENTS;
-use arrayvec::ArrayVec;
 use std::marker::Model;
 
 /// The arguments of a Start: at most `ARGUMENTS` components, held in place.
 #[derive(Debug, Drop)]
 pub struct Args {
-    comps: ArrayVec<Comp, ARGUMENTS>,
+    comps: [Comp; ARGUMENTS],
+    len: u8,
 }
 
 impl Model for Args {
-    ghost use Rattle.std.specs.Prelude.{List};
+    ghost use Rattle.std.specs.Prelude.{◌≡◌, ◌≤◌, ◌++◌, ◌-◌, List, length, replicate, take};
     ghost use Rattle.tc_entry.specs.declared.comp.Comp.{Comp};
 
     ghost Value = { List Comp };
 
-    ghost view = { λ a. a.comps.items };
+    ghost view = { λ a. take a.len a.comps };
+
+    // What is not used is component 0, so that two with the same components are the same value.
+    ghost invariant = { λ a. (a.len ≤ 4) × (length (take a.len a.comps) ≡ a.len)
+        × (a.comps ≡ take a.len a.comps ++ replicate (4 - a.len) (record { 0 = 0 })) };
+
+    ghost inverse = { λ cs. record {
+      comps = cs ++ replicate (4 - length cs) (record { 0 = 0 });
+      len = length cs;
+    } };
 }
 
 impl PartialEq for Args {
@@ -42,7 +51,8 @@ impl Args {
         ensures { result ≡ [] }
     {
         Args {
-            comps: ArrayVec::new(),
+            comps: [Comp(0); ARGUMENTS],
+            len: 0,
         }
     }
 
@@ -52,7 +62,13 @@ impl Args {
         ensures full { OnFalse result (self.new ≡ self.old) }
         ensures answer { IsTrue result ↔ (length self.old < 4) }
     {
-        self.comps.try_push(comp).is_ok()
+        let at = self.len as usize;
+        if at >= ARGUMENTS {
+            return false;
+        }
+        self.comps[at] = comp;
+        self.len += 1;
+        true
     }
 
     /// The components, in their order.
@@ -60,7 +76,7 @@ impl Args {
         ensures same { result.now ≡ self.now }
         ensures few { length self.now ≤ ARGUMENTS }
     {
-        self.comps.as_slice()
+        &self.comps[..usize::from(self.len)]
     }
 
     /// An equal value.
@@ -68,7 +84,8 @@ impl Args {
         ensures { result ≡ self.now }
     {
         Args {
-            comps: self.comps.clone().unwrap(),
+            comps: self.comps,
+            len: self.len,
         }
     }
 

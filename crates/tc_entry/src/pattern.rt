@@ -161,6 +161,7 @@ fn is_pattern(bytes: &[u8]) -> bool
 
 impl Pattern {
     /// The pattern of this text, if it is one.
+    #[tactic(auto, using(crate::proofs::Lemmas::Names::name_short))]
     pub fn read(text: &str) -> Option<Pattern>
         ensures valid { IsSome result ↔ IsPattern text.now }
         ensures spelled { IfSome result (λ p. p ≡ text.now) }
@@ -182,6 +183,7 @@ impl Pattern {
     }
 
     /// Whether the pattern matches the name.
+    #[tactic(auto, using(crate::proofs::Lemmas::Names::name_short))]
     pub fn matches(&self, name: &Name) -> bool
         ensures { result ≡ spec_matches self.now name.now }
     {

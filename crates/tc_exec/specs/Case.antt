@@ -7,14 +7,13 @@ use Rattle.tc_exec.specs.{Workers.{IsLeftBy, WasCalled}, declared.job.{Back.Back
 -- The report of a case of n behaviours. It has one history of one thread, in which each reply is the component table's
 -- at that point, and the logs are the parts of this history. Once an entry has ended the case no component is alive.
 -- The verdict is the worst of the local verdicts. A behaviour other than that of run 0 has a log only if a Start of its
--- run was replied Ok. That these logs are those of the passes that the behaviours handed back is IsMadeOf.
+-- run was replied Ok: there is one of each run that is on a component. That these logs are those of the passes that the
+-- behaviours handed back is IsMadeOf.
 pub record IsCaseReport (n : ℕ) (c : Closed) : Type 0 where
   -- the history, the logs, the local verdicts and the overall verdict
   pub one_history : IsOneHistory c
   -- as many behaviours as jobs
   pub behaviours : c.behaviours ≡ n
-  -- each log is of a run that was started: a Start of it, on the log's component, was replied Ok in the history
-  pub started : All (λ l. 0 < l.run.0 → (args : List Comp) × (start_of (reverse c.history) l.run.0 ≡ Some (l.comp, args))) c.logs
 
 -- The behaviours are those of the runs, in the order of the runs' numbers: each of which the run was started was called,
 -- with a new pass of that run.

@@ -242,8 +242,8 @@ module _ {aim : Verdict} (scripts : List ScriptView) (p q : List Entry) (e : Ent
 
       by_tests : (k h : Bool) → kills e c ≡ k → halts (comp_of p e.caller.0) e c ≡ h → (phase (e ∷ p) c ≡ phase (e ∷ q) c) ⊎ IsEnding aim scripts (e ∷ p) (e ∷ q) c
       by_tests true h i j = inl (after_p ∙ (rw i refl ∙ sym after_q))
-      by_tests false true i j = inl (after_p ∙ (rw (i, j) refl ∙ sym after_q))
-      by_tests false false i j = inr (ending_later n (after_p ∙ rw (i, j) refl) (after_q ∙ rw (i, j) refl) (rw n.on refl) (rw (there, n.ordinary) refl)
+      by_tests false true i j = inl (after_p ∙ (rw (j, i) refl ∙ sym after_q))
+      by_tests false false i j = inr (ending_later n (after_p ∙ rw (j, i) refl) (after_q ∙ rw (j, i) refl) (rw n.on refl) (rw (there, n.ordinary) refl)
           (leaving_later scripts q (e ∷ q) n.run.0 (stand (e ∷ p) n.run.0) keeps (leaving_other scripts p q e c n cp (not_ending_run s e.caller.0 act c n))))
 
   -- what is killed after q was so before, or is killed after p too

@@ -1,9 +1,14 @@
 -- Histories that are alike are answered alike, except for questions, and are alike after the same entry.
 use Rattle.std.proofs.lemmas.Grind.{common_steps}
 use Rattle.std.{proofs.{lemmas.Bool.{or_parts, or_right, false_from_ne_true}, Common.{ℕ, ◌≡◌, ◌==◌, ◌&&◌, not, if◌then◌else◌, Bool, true, false, Option, Some, None, is_some, List, [], ◌∷◌, ◌++◌, length, drop, refl, ap, sym, ◌∙◌, arith, ◌≤◌}}, specs.List.{list_any, list_all}}
-use Rattle.tc_rules.{specs.{Prelude.{Verdict, worse, worst, level_of, Comp, Entry, Op, Target, Phase, comps, comp_of, ptcs, exists, is_in, is_comp, is_alive_type, created, started_on, first_some, add_new, halts, kills, phase, phase_if_any, start_in, done, killed, is_running, is_killed, is_done, local, overall, gives, verdicts_of, holds, fault, names, special_fault, start_fault, components, is_active, is_active_on, is_run_of, IsLegal, Group}, Inside.{Kept.{blank, state_of}, Step.{next_local, next_phase, next_state}}, declared.{awaited.Awaited.Awaited, component_state.ComponentState.ComponentState}}, proofs.Lemmas.{Deciding.{equal_if, self_equal, first_alone}, Fresh.fresh_step, Keeping.{all_exist_same, kill_halts}, LawsOfHistories.killed_was_halted, Sound.starts, Steps.state_step, Decided.{overall_more, no_better, not_on, not_before}}}
+use Rattle.tc_rules.{specs.{Prelude.{Verdict, worse, worst, level_of, Comp, Entry, Op, Target, Phase, comps, comp_of, ptcs, exists, is_in, is_comp, is_alive_type, created, started_on, first_some, add_new, halts, kills, phase, phase_if_any, start_in, done, killed, is_running, is_killed, is_done, local, overall, gives, verdicts_of, holds, fault, names, special_fault, start_fault, components, is_active, is_active_on, is_run_of, IsLegal, Group, Reply, Fault}, Inside.{Kept.{blank, state_of}, Step.{next_local, next_phase, next_state}}, declared.{awaited.Awaited.Awaited, component_state.ComponentState.ComponentState}}, proofs.Lemmas.{Deciding.{equal_if, self_equal, first_alone}, Fresh.fresh_step, Keeping.{all_exist_same, kill_halts}, LawsOfHistories.killed_was_halted, Sound.starts, Steps.{state_step, worst-append}, Decided.{overall_more, no_better, not_on, not_before}}}
 use Rattle.tc_verdict.proofs.Lemmas.Order.{worse_left, worse_right}
 use Rattle.tc_explore.specs.Inside.Simulation.{IsAlike, is_gone, is_late, is_met}
+
+-- a dynamic error gives the verdict error
+pub gives_error : (op : Op) (f : Fault) → gives op (Reply.Fault f) ≡ Verdict.Error ∷ []
+gives_error (Op.SetVerdict v) f = refl
+gives_error op f = refl
 
 -- ---- what is the same
 
@@ -143,12 +148,8 @@ phase_next n past e c legal = by_test (exists past c) refl
 
 -- ---- verdicts
 
-worst_both : (vs ws : List Verdict) → worst (vs ++ ws) ≡ next_local vs (worst ws)
-worst_both [] ws = refl
-worst_both (v ∷ vs) ws = rw (worst_both vs ws)
-
-local_by : (on : Bool) (vs ws : List Verdict) → worst (if on then vs ++ ws else ws) ≡ (if on then next_local vs (worst ws) else worst ws)
-local_by true vs ws = worst_both vs ws
+local_by : (on : Bool) (vs ws : List Verdict) → worst ((if on then vs else []) ++ ws) ≡ (if on then next_local vs (worst ws) else worst ws)
+local_by true vs ws = worst-append vs ws
 local_by false vs ws = refl
 
 pub local_next : (past : List Entry) (e : Entry) (c : ℕ) →
@@ -203,7 +204,7 @@ alike_unchanged n past e legal u = record {
   comps_same = ap (λ o. add_new o (comps past)) u.made;
   phase_same = λ c.
       phase_next n past e c legal
-      ∙ (rw (none_killed past e u c, u.no_start c, u.no_halt c) refl
+      ∙ (rw (u.no_halt c, none_killed past e u c, u.no_start c) refl
       ∙ kept_by (exists past c) (phase past c) (λ k. ap (λ (s : ComponentState). s.phase) (fresh n past c legal.1 k)));
   kind_same = λ c. rw u.made (kind_kept (exists past c) (is_alive_type past c) (λ k. ap (λ (s : ComponentState). s.alive_type) (fresh n past c legal.1 k)));
   comp_same = λ b. ap (first_some (comp_of past b)) (u.no_run b) ∙ first_alone (comp_of past b);

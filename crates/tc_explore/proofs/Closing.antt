@@ -2,11 +2,11 @@
 -- found.
 use Rattle.std.proofs.lemmas.Grind.{common_steps}
 use Rattle.std.{proofs.{lemmas.Bool.{both_ways, not-true, or_parts, cases_lt, true_from_ne_false}, Common.{ℕ, zero, suc, ◌≡◌, ◌<◌, ◌≤◌, ◌==◌, ◌&&◌, ◌⊎◌, inl, inr, ⊎_elim, if◌then◌else◌, Bool, true, false, Option, Some, None, is_some, MatchOption, List, [], ◌∷◌, length, slice_get, refl, ap, sym, subst, ◌∙◌, arith}}, specs.Option.unwrap_or}
-use Rattle.tc_rules.{specs.{Prelude.{Verdict, worse, level_of, Comp, Entry, Op, Target, Phase, Reply, Fault, is_ended, is_fault, is_wake, comp_of, comps, exists, is_in, created, started_on, ends_case, is_over, phase, overall, gives, holds, waiting, waits_in_vain, is_still, is_stuck, awaited, fault, all_exist, answer, plain_answer, wake_reply, is_active, is_active_on, is_run_of, IsLegal, UserVerdict, given}, declared.awaited.Awaited.Awaited}, proofs.Lemmas.{Deciding.{and_right, equal_if, self_equal}, Going.started_by_entry, Over.{all_over, on_existing}, Stuck.one_false, Decided.overall_more}}
+use Rattle.tc_rules.{specs.{Prelude.{Verdict, worse, level_of, Comp, Entry, Op, Target, Phase, Reply, Fault, is_ended, is_fault, is_wake, comp_of, comps, exists, is_in, created, started_on, ends_case, kills, is_over, phase, overall, gives, holds, waiting, waits_in_vain, is_still, is_stuck, awaited, fault, all_exist, answer, plain_answer, is_active, is_active_on, is_run_of, IsLegal, UserVerdict, given}, declared.awaited.Awaited.Awaited}, proofs.Lemmas.{Deciding.{and_right, equal_if, self_equal}, Going.started_by_entry, Over.{all_over, on_existing}, Stuck.one_false, Decided.overall_more}}
 use Rattle.tc_step.specs.Prelude.{ScriptView}
 use Rattle.tc_course.{specs.{Inside.{call_of, wake_if, ends}, declared.witness.Witness.Witness, Prelude.{CourseState, stand, goes_on, after_own, after_other_by, is_idle, turn, steps_of, IsTurn, IsCourse, IsComplete, is_found}}, proofs.Lemmas.{course_legal, HasTurn, has_turn, turn_of, stand_own, stand_comp, stand_unstarted, unstarted, IsAwaitedBy, waiting_wake, wake_after_other, run_in_range, other_not_idle}}
 use Rattle.tc_verdict.proofs.Lemmas.Order.{worse_right}
-use Rattle.tc_explore.{specs.Inside.{Seen.IsToldBy, Simulation.{AreOrdered, GoesOn, IsAhead, IsAlike, IsBarredBefore, IsBefore, IsClosed, IsCovered, IsEnding, IsFollowed, IsFor, IsLastAt, IsLeaving, IsParkedAt, IsQuietAt, IsWakeOf, IsWithin, WasParked, call_at, is_barred, is_met, is_quiet, is_spent, place_of}}, proofs.{Ahead.{answer_plain, active_back, active_forth, ahead_after, ahead_self, ahead_step, ahead_turn, answer_ahead, died_before, ended_inactive, ending_active, fault_ahead, holds_ahead, none_too, not_ending_run, some_too}, Alike.{ChangesNothing, active_alike, alike_sym, alike_unchanged, holds_alike, is_plain_call, next_within, overall_grows}, Late.{IsMetFor, ahead_late, halt_not_ending, late_for, late_free, late_halts, late_reply, met_for, met_holds, met_or_parked, met_reply, other_than_gone, HaltsOne}, Leaving.{Ends, running_on, calls_as, end_halts}, Ordered.order_opening, Places.{Spent, barred_sets, behind, followed_self, how_spent, keeps_quiet, leaving_on, leaving_parked, leaving_woken, loud_not_quiet, not_ending, parked, quiet_free, quiet_no_wake, quiet_sets_no_wake, together, woken, woken_behind, or_no, next_of, next_plain, wake_of_turn}, Simulation.{both, ended_kept, quiet_within, some_if, stay, stutter, unchanged_ended, unchanged_quiet, unchanged_wait, unchanged_wake, wait_kept, wake_kept}}}
+use Rattle.tc_explore.{specs.Inside.{Seen.IsToldBy, Simulation.{AreOrdered, GoesOn, IsAhead, IsAlike, IsBarredBefore, IsBefore, IsClosed, IsCovered, IsEnding, IsFollowed, IsFor, IsLastAt, IsLeaving, IsParkedAt, IsQuietAt, IsWakeOf, IsWithin, WasParked, call_at, is_barred, is_met, is_quiet, is_spent, place_of}}, proofs.{Ahead.{answer_plain, active_back, active_forth, ahead_after, ahead_self, ahead_step, ahead_turn, answer_ahead, died_before, ended_inactive, ending_active, fault_ahead, holds_ahead, none_too, not_ending_run, some_too}, Alike.{ChangesNothing, active_alike, alike_sym, gives_error, alike_unchanged, holds_alike, is_plain_call, next_within, overall_grows}, Late.{IsMetFor, ahead_late, halt_not_ending, late_for, late_free, late_halts, late_reply, met_for, met_holds, met_or_parked, met_reply, other_than_gone, HaltsOne}, Leaving.{Ends, running_on, calls_as, end_halts}, Ordered.order_opening, Places.{Spent, barred_sets, behind, followed_self, how_spent, keeps_quiet, leaving_on, leaving_parked, leaving_woken, loud_not_quiet, not_ending, parked, quiet_free, quiet_no_wake, quiet_sets_no_wake, together, woken, woken_behind, or_no, next_of, next_plain, wake_of_turn}, Simulation.{both, ended_kept, quiet_within, some_if, stay, stutter, unchanged_ended, unchanged_quiet, unchanged_wait, unchanged_wake, wait_kept, wake_kept}}}
 
 -- what is found of a course, or represents it
 pub record IsTold (aim : Verdict) (scripts : List ScriptView) (Seen : List Entry → Type 0) (found : List Witness) (p : List Entry) : Type 0 where
@@ -167,7 +167,7 @@ module _ {aim : Verdict} {scripts : List ScriptView} {Seen : List Entry → Type
   told_stay h none f = grind (arith, common_steps)
 
   told_stutter : AtTurn aim scripts Seen found p q e → ChangesNothing p e → level_of (overall (e ∷ p)) ≤ level_of (overall q) → IsPlaced aim scripts p q e → IsTold aim scripts Seen found (e ∷ p)
-  told_stutter h u better placed = told_stay h (or_parts (ends_case e) _ (u.no_halt 0)).0 (stutter scripts p q e h.course h.closed.course h.for u better placed.own placed.follows)
+  told_stutter h u better placed = told_stay h (or_parts (ends_case e) _ (or_parts (kills e 0) _ (u.no_halt 0)).0).0 (stutter scripts p q e h.course h.closed.course h.for u better placed.own placed.follows)
 
   -- a call of p that halts only a component that is killed after q
   told_halt : AtTurn aim scripts Seen found p q e → (c : ℕ) → HaltsOne p e c → phase q c ≡ Phase.Killed → exists p c ≡ true →
@@ -196,8 +196,8 @@ module _ {aim : Verdict} {scripts : List ScriptView} {Seen : List Entry → Type
       IsTold aim scripts Seen found (e ∷ p)
   told_fault h d turn callers within x y re rd =
       let lq : IsLegal (length scripts) (d ∷ q) = course_legal scripts (d ∷ q) (turn, h.closed.course) in
-      let vp : overall (e ∷ p) ≡ Verdict.Error = overall_more (length scripts) p e (legal_next h) ∙ (rw re refl ∙ error_is_worst (overall p)) in
-      let vq : overall (d ∷ q) ≡ Verdict.Error = overall_more (length scripts) q d lq ∙ (rw rd refl ∙ error_is_worst (overall q)) in
+      let vp : overall (e ∷ p) ≡ Verdict.Error = overall_more (length scripts) p e (legal_next h) ∙ (rw (re, gives_error e.op x) refl ∙ error_is_worst (overall p)) in
+      let vq : overall (d ∷ q) ≡ Verdict.Error = overall_more (length scripts) q d lq ∙ (rw (rd, gives_error d.op y) refl ∙ error_is_worst (overall q)) in
       let lp : level_of (overall (e ∷ p)) ≡ level_of Verdict.Error = ap level_of vp in
       let ld : level_of (overall (d ∷ q)) ≡ level_of Verdict.Error = ap level_of vq in
       let within_p : level_of (overall (e ∷ p)) ≤ level_of aim = h.within in
@@ -543,7 +543,7 @@ fault_of_wait n past b k t = refl
 module _ {aim : Verdict} {scripts : List ScriptView} {Seen : List Entry → Type 0} {found : List Witness} {p q : List Entry} {e : Entry} where
   told_stuck : AtTurn aim scripts Seen found p q e → is_stuck p ≡ true → e.reply ≡ Reply.Fault Fault.Stuck → IsTold aim scripts Seen found (e ∷ p)
   told_stuck h stuck r =
-      let v : overall (e ∷ p) ≡ Verdict.Error = overall_more (length scripts) p e (course_legal scripts (e ∷ p) h.course) ∙ (rw r refl ∙ error_is_worst (overall p)) in
+      let v : overall (e ∷ p) ≡ Verdict.Error = overall_more (length scripts) p e (course_legal scripts (e ∷ p) h.course) ∙ (rw (r, gives_error e.op Fault.Stuck) refl ∙ error_is_worst (overall p)) in
       let ends : ends_case e ≡ true = rw r refl in
       let over_e : is_over (e ∷ p) ≡ true = rw ends refl in
       let worst : level_of (overall (e ∷ p)) ≡ level_of Verdict.Error = ap level_of v in
@@ -574,8 +574,8 @@ module _ {aim : Verdict} {scripts : List ScriptView} {Seen : List Entry → Type
       (let was = still_better h (wake_kept (length scripts) p e (Op.Wait k t) (legal_next h) of (rw r refl)) in let grows = overall_grows (length scripts) q d lq in omega (arith, was, grows)) in
       let inside : level_of (overall (d ∷ q)) ≤ level_of aim =
       let same = ap level_of (wait_kept (length scripts) q d (Op.Wake k t) lq to refl) in let was = h.closed.within in omega (arith, same, was) in
-      let ends_e : ends_case e ≡ false = (or_parts (ends_case e) _ (ue.no_halt 0)).0 in
-      let ends_d : ends_case d ≡ false = (or_parts (ends_case d) _ (ud.no_halt 0)).0 in
+      let ends_e : ends_case e ≡ false = (or_parts (ends_case e) _ (or_parts (kills e 0) _ (ue.no_halt 0)).0).0 in
+      let ends_d : ends_case d ≡ false = (or_parts (ends_case d) _ (or_parts (kills d 0) _ (ud.no_halt 0)).0).0 in
       told_both h d turn g.in_range refl ahead.no_better inside (ends_e ∙ sym ends_d) (λ o.
       both scripts p q e d h.course cq h.for refl ahead keeps
       (λ act.
@@ -592,7 +592,7 @@ module _ {aim : Verdict} {scripts : List ScriptView} {Seen : List Entry → Type
       (λ c dead. inl (sym (ad.phase_same c) ∙ dead)))
 
   -- a Wake of what has not come
-  told_unmet : AtTurn aim scripts Seen found p q e → (k : Bool) (t : Target) → e.op ≡ Op.Wake k t → e.reply ≡ wake_reply p e.caller.0 (record { killed = k; target = t }) →
+  told_unmet : AtTurn aim scripts Seen found p q e → (k : Bool) (t : Target) → e.op ≡ Op.Wake k t → e.reply ≡ plain_answer p e.caller.0 (Op.Wake k t) →
       holds p (record { killed = k; target = t }) ≡ false → IsTold aim scripts Seen found (e ∷ p)
   told_unmet h k t op_is r unmet = by_stuck ((e.caller.0 == 0) && is_stuck p) refl
     where
@@ -645,7 +645,7 @@ module _ {aim : Verdict} {scripts : List ScriptView} {Seen : List Entry → Type
 
   -- the answer to a Wake of a Wait that is no error after q
   wake_answer : AtTurn aim scripts Seen found p q e → (k : Bool) (t : Target) → is_active p e.caller.0 ≡ true → e.op ≡ Op.Wake k t → fault (length scripts) q e.caller.0 (Op.Wait k t) ≡ None →
-      e.reply ≡ wake_reply p e.caller.0 (record { killed = k; target = t })
+      e.reply ≡ plain_answer p e.caller.0 (Op.Wake k t)
   wake_answer h k t act op_is none =
       let none_p : fault (length scripts) p e.caller.0 (Op.Wake k t) ≡ None =
       none_too (fault (length scripts) q e.caller.0 (Op.Wait k t)) (fault (length scripts) p e.caller.0 (Op.Wake k t)) (sym (wake_fault h k t)) none in
@@ -656,7 +656,7 @@ module _ {aim : Verdict} {scripts : List ScriptView} {Seen : List Entry → Type
       (ChangesNothing p e → e.reply ≡ Reply.Matched → IsPlaced aim scripts p q e) → IsTold aim scripts Seen found (e ∷ p)
   told_awoken h k t act op_is quiet placed = by_holds (holds p (record { killed = k; target = t })) refl
     where
-      reply : e.reply ≡ wake_reply p e.caller.0 (record { killed = k; target = t })
+      reply : e.reply ≡ plain_answer p e.caller.0 (Op.Wake k t)
       reply = wake_answer h k t act op_is quiet.no_fault
 
       by_holds : (s : Bool) → holds p (record { killed = k; target = t }) ≡ s → IsTold aim scripts Seen found (e ∷ p)

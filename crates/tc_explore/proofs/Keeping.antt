@@ -2,7 +2,7 @@
 -- something.
 use Rattle.std.proofs.lemmas.Grind.{common_steps}
 use Rattle.std.proofs.{lemmas.Bool.{and_parts, not-true, or_from, or_parts, true_from_ne_false}, Common.{ℕ, ◌≡◌, ◌==◌, ◌&&◌, ◌||◌, inl, inr, not, Bool, true, false, Option, Some, None, List, [], ◌∷◌, length, reverse, refl, ap, sym, subst, ◌∙◌, arith}}
-use Rattle.tc_rules.{specs.Prelude.{Run, Comp, Entry, Op, Reply, is_ended, is_fault, Case, past_of, comp_of, started_on, first_some, is_comp, is_finish, is_stop_of, is_kill_of, is_stop_case, halts, ends_case, ends_pass, is_over, phase, answer, is_active, is_active_on, is_run_of, IsLegal, Verdict, overall, gives, local, level_of, Phase, entry_made}, proofs.Lemmas.{Deciding.{equal_if, if_same}, Going.halted_by_entry, Sound.plain_if, Decided.overall_more}}
+use Rattle.tc_rules.{specs.Prelude.{Run, Comp, Entry, Op, Reply, is_ended, is_fault, Case, past_of, comp_of, started_on, first_some, is_comp, is_finish, kills, is_stop_of, is_kill_of, is_stop_case, halts, ends_case, ends_pass, is_over, phase, answer, is_active, is_active_on, is_run_of, IsLegal, Verdict, overall, gives, local, level_of, Phase, entry_made}, proofs.Lemmas.{Deciding.{equal_if, gives_if, if_same}, Going.halted_by_entry, Sound.plain_if, Decided.overall_more}}
 use Rattle.tc_step.specs.Prelude.{ScriptView}
 use Rattle.tc_course.{specs.{Prelude.{CourseState, stand, goes_on, after_other_by, IsTurn, IsCourse, IsOn}, Inside.ends}, proofs.Lemmas.{course_legal, has_turn, stand_own, stand_other, stand_comp, stand_unstarted}}
 use Rattle.tc_explore.{specs.Inside.{Seen.{HasNoWake, IsCalm, IsOpen, IsState}, Simulation.{IsSilent, IsWithin}}, proofs.{Alike.ChangesNothing, Closing.{answer_inactive, loud_sets_no_wake, not_ended}, Felling.felling_halts, Late.{halt_overall, late_halts, late_reply, met_for, HaltsOne, late_for}, Leaving.running_on, Places.{Spent, how_spent, kept_left, wake_after}, Simulation.{quiet_within, unchanged_quiet, unchanged_wait, wait_kept}, Ahead.on_not_ended}}
@@ -13,9 +13,7 @@ no_wake_next : (past : List Entry) (e : Entry) → goes_on e.reply ≡ true → 
 no_wake_next past e on h b = wake_after past e b ∙ rw (loud_sets_no_wake e.op e.reply on, h b) (if_same (e.caller.0 == b) None)
 
 finish_gives : (op : Op) (r : Reply) → op ≡ Op.Finish → is_fault r ≡ false → gives op r ≡ []
-finish_gives op Reply.Ok is plain = rw is refl
-finish_gives op (Reply.Fault x) is plain = absurd cc
-finish_gives op _ is plain = refl
+finish_gives op r is plain = gives_if op r plain (rw is refl)
 
 -- a call of which nobody can see that it was made ends no case, and makes the verdict no worse than is looked for
 silent_keeps : {aim : Verdict} (scripts : List ScriptView) (q : List Entry) (e : Entry) → IsCourse scripts (e ∷ q) → is_fault e.reply ≡ false → is_ended e.reply ≡ false → IsSilent aim scripts q e.caller.0 e.op →
@@ -29,7 +27,7 @@ silent_keeps {aim} scripts q e cq plain goes silent = by_call silent
     by_halt c one = (one.no_case, λ within. let same = ap level_of (halt_overall (length scripts) legal one) in omega (arith, same, within))
 
     no_case : ChangesNothing q e → ends_case e ≡ false
-    no_case u = (or_parts (ends_case e) _ (u.no_halt 0)).0
+    no_case u = (or_parts (ends_case e) _ (or_parts (kills e 0) _ (u.no_halt 0)).0).0
 
     by_kind : Spent q e.op → (ends_case e ≡ false) × (IsWithin aim q → IsWithin aim (e ∷ q))
     by_kind (inl quiet) = (no_case (unchanged_quiet (overall q) q e quiet plain), λ within. let l = quiet_within (overall q) (length scripts) q e legal quiet plain (omega arith) in omega (arith, l, within))
@@ -184,7 +182,7 @@ main_only past e main act here = by_comp (comp_of past e.caller.0) refl here
         ap (is_run_of 0) (sym main_too) ∙ main_runs
 
 halts_by : (r f w n s k m c : Bool) → (r ≡ false → c ≡ true → m ≡ true) → (not r && (f || w || (n && m) || s || k)) ≡ false →
-    ((not r && (f || w || (n && m) || s || k)) || (not r && ((n && c) || s || k))) ≡ false
+    (((not r && (f || w || (n && m) || s || k)) || (not r && k)) || (not r && ((n && c) || s))) ≡ false
 halts_by true f w n s k m c only h = refl
 halts_by false false false true s k true c only h = absurd cc
 halts_by false false false true false false false true only h = let no = only refl refl in absurd cc

@@ -1,6 +1,6 @@
 -- The last calls of a case that is over: they are replied Ended, and after them no run has a call left.
 use Rattle.std.proofs.{lemmas.Bool.or_right, Common.{ℕ, ◌≡◌, ◌<◌, ◌≤◌, ◌+◌, ◌==◌, inl, inr, Bool, true, false, Some, None, List, [], ◌∷◌, length, refl, ap, sym, subst, ◌∙◌, arith}}
-use Rattle.tc_rules.{specs.Prelude.{Run, Comp, Entry, Op, Case, past_of, comp_of, is_comp, ends_case, ends_pass, is_over, IsLegal, local, local_if_any, overall, gives, answer, Reply, entry_made}, proofs.Lemmas.{Deciding.{equal_if, if_same}, Over.all_over, Decided.overall_more}}
+use Rattle.tc_rules.{specs.Prelude.{Run, Comp, Entry, Op, Case, past_of, comp_of, is_comp, ends_case, ends_pass, is_over, IsLegal, local, local_if_any, overall, gives, answer, Reply, entry_made}, proofs.Lemmas.{Deciding.{equal_if, gives_nothing, if_same}, Over.all_over, Decided.overall_more}}
 use Rattle.tc_step.specs.Prelude.{ScriptView}
 use Rattle.tc_course.{specs.Prelude.{CourseState, stand, after_own, turn, turn_on, steps_of, is_idle, IsTurn, IsCourse, IsComplete, IsOn, CannotGo}, proofs.Lemmas.{course_legal, has_turn, stand_own, below_more}}
 use Rattle.tc_explore.{specs.Inside.Seen.{IsStepped, HasSameLocals}, proofs.{Alike.{alike_unchanged, exists_same, local_next, none_unless}, Simulation.unchanged_ended, Places.stand_still}}
@@ -14,7 +14,7 @@ local_kept past e c none = local_next past e c ∙ (rw none refl ∙ if_same (is
 -- a local verdict stays after a call that is replied Ended
 pub locals_ended : (n : ℕ) (past : List Entry) (e : Entry) → IsLegal n (e ∷ past) → e.reply ≡ Reply.Ended → (c : ℕ) → local_if_any (e ∷ past) c ≡ local_if_any past c
 unfolding local_if_any
-locals_ended n past e legal r c = rw (exists_same (alike_unchanged n past e legal (unchanged_ended past e r)) c, local_kept past e c (ap (gives e.op) r)) refl
+locals_ended n past e legal r c = rw (exists_same (alike_unchanged n past e legal (unchanged_ended past e r)) c, local_kept past e c (ap (gives e.op) r ∙ gives_nothing e.op Reply.Ended refl refl)) refl
 
 -- ---- one step
 
@@ -64,7 +64,7 @@ pub record IsOverAfter (scripts : List ScriptView) (p q : List Entry) (b : ℕ) 
 over_entry : (scripts : List ScriptView) (p : List Entry) (e : Entry) (b : ℕ) → IsCourse scripts p → is_over p ≡ true → e.caller.0 ≡ b → IsTurn scripts p e → IsOverAfter scripts p (e ∷ p) b
 over_entry scripts p e b course over own mine = record {
   over = rw (none, over) refl;
-  verdict = overall_more (length scripts) p e (course_legal scripts (e ∷ p) (mine, course)) ∙ rw r refl;
+  verdict = overall_more (length scripts) p e (course_legal scripts (e ∷ p) (mine, course)) ∙ rw (r, gives_nothing e.op Reply.Ended refl refl) refl;
   locals = locals_ended (length scripts) p e (course_legal scripts (e ∷ p) (mine, course)) r;
   done = ap (turn scripts (e ∷ p)) (sym own) ∙ own_done scripts p e mine r;
   others = λ k had. by_caller k had (e.caller.0 == k) refl;

@@ -117,7 +117,7 @@ module _ {past : List Entry} {e : Entry} {c : ℕ} where
   pub halt_elsewhere : (n : ℕ) → IsLegal n (e ∷ past) → HaltsOne past e c → (d : ℕ) → (c == d) ≡ false → phase (e ∷ past) d ≡ phase past d
   halt_elsewhere n legal h d other =
       phase_next n past e d legal
-      ∙ (rw (h.no_kill d other, h.no_start d, h.elsewhere d other) refl
+      ∙ (rw (h.elsewhere d other, h.no_kill d other, h.no_start d) refl
       ∙ kept_by (exists past d) (phase past d) (λ k. ap (λ (s : ComponentState). s.phase) (fresh n past d legal.1 k)))
 
   -- one that was running a run, and is not alive-type, is killed then

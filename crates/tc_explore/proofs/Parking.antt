@@ -4,7 +4,7 @@ use Rattle.std.proofs.{Common.{ℕ, ◌≡◌, ◌<◌, ◌≤◌, ◌+◌, ◌=
 use Rattle.tc_rules.{specs.Prelude.{Run, Comp, Entry, Op, Target, Phase, Reply, Fault, is_ended, is_fault, is_wake, Case, past_of, comps, comp_of, is_alive_type, is_over, phase, last_run, was_killed, was_halted, overall, holds, waiting, waits_in_vain, is_still, is_stuck, fault, answer, plain_answer, is_active, is_run_of, IsLegal, Verdict}, proofs.Lemmas.{Deciding.{equal_if, self_equal}, Going.last_on_it, Steps.phase_by, Decided.overall_more}}
 use Rattle.tc_step.specs.Prelude.{ScriptView}
 use Rattle.tc_course.{specs.{Inside.{call_of, one_more_if}, Prelude.{CourseState, stand, goes_on, carried_on, turn, steps_of, IsTurn, IsCourse, is_found, IsOn}}, proofs.Lemmas.{course_legal, other_not_idle, has_turn, turn_of, never_wake, stand_own, stand_comp, run_in_range, below_more}}
-use Rattle.tc_explore.{specs.{Found.Covers, Inside.{Seen.{AreHeld, AreStill, HasNoWake, IsOpen, IsRunClosed, IsStepped, IsSteppedIfActive}, Simulation.{GoesOn, IsAlike, is_quiet}}, declared.search.Search.Search}, proofs.{Alike.{ChangesNothing, active_alike, alike_unchanged, fault_alike, holds_alike}, Closing.{answer_fault, error_is_worst, fault_of_wait, not_ended, parks_wait, quiet_reply}, Keeping.{active_stays, comp_main, main_goes}, LastCalls.turn_by, Places.{not_ending, stand_still}, Simulation.{some_if, unchanged_wait}, Ahead.{answer_plain, active_if}}}
+use Rattle.tc_explore.{specs.{Found.Covers, Inside.{Seen.{AreHeld, AreStill, HasNoWake, IsOpen, IsRunClosed, IsStepped, IsSteppedIfActive}, Simulation.{GoesOn, IsAlike, is_quiet}}, declared.search.Search.Search}, proofs.{Alike.{ChangesNothing, active_alike, alike_unchanged, fault_alike, gives_error, holds_alike}, Closing.{answer_fault, error_is_worst, fault_of_wait, not_ended, parks_wait, quiet_reply}, Keeping.{active_stays, comp_main, main_goes}, LastCalls.turn_by, Places.{not_ending, stand_still}, Simulation.{some_if, unchanged_wait}, Ahead.{answer_plain, active_if}}}
 
 -- ---- who is held
 
@@ -258,7 +258,7 @@ stuck_if n past some legal all = list_all-from_AllPass (λ c. is_still past (pha
 
 -- after a Fault the case is over, with error
 fault_ends : (n : ℕ) (q : List Entry) (e : Entry) (f : Fault) → IsLegal n (e ∷ q) → e.reply ≡ Reply.Fault f → (is_over (e ∷ q) ≡ true) × (overall (e ∷ q) ≡ Verdict.Error)
-fault_ends n q e f legal is = (rw is refl, overall_more n q e legal ∙ rw is (error_is_worst (overall q)))
+fault_ends n q e f legal is = (rw is refl, overall_more n q e legal ∙ rw (is, gives_error e.op f) (error_is_worst (overall q)))
 
 -- the case is over, with error, and its main run has carried out one call more
 pub record IsStuckEnd (t v : Case) : Type 0 where

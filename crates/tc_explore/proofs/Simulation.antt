@@ -1,7 +1,7 @@
 -- A history that represents another still does after one more turn of either.
 use Rattle.std.proofs.lemmas.Grind.{common_steps}
 use Rattle.std.proofs.{Common.{ℕ, ◌≡◌, ◌==◌, ◌⊎◌, not, Bool, true, false, Option, Some, None, List, ◌∷◌, length, refl, ap, sym, subst, ◌∙◌, arith, ◌≤◌, ⊎_elim, inl, inr, ◌<◌}, lemmas.Bool.Decides.nat_tests}
-use Rattle.tc_rules.{specs.{Prelude.{Verdict, worse, level_of, given, Comp, Entry, Op, Reply, is_fault, is_ok, comp_of, created, starts_run, started_on, phase, start_in, overall, gives, setting, is_active, plain_answer, halting_op, IsLegal, Phase}, Inside.Step.next_local}, proofs.Lemmas.{Deciding.{and_left, equal_if, if_same}, Going.{halted_by_entry}, Kept.inactive, Decided.overall_more}}
+use Rattle.tc_rules.{specs.{Prelude.{Verdict, worse, level_of, given, Comp, Entry, Op, Reply, is_fault, is_ok, comp_of, created, starts_run, started_on, phase, start_in, overall, gives, is_active, plain_answer, halting_op, IsLegal, Phase}, Inside.Step.next_local}, proofs.Lemmas.{Deciding.{and_left, equal_if, gives_if, gives_nothing, if_same, ok_is}, Going.{halted_by_entry}, Kept.inactive, Decided.overall_more}}
 use Rattle.tc_step.specs.Prelude.{ScriptView}
 use Rattle.tc_course.{specs.Prelude.{CourseState, stand, IsCourse}, proofs.Lemmas.{course_legal, stand_other, stand_comp}}
 use Rattle.tc_verdict.proofs.Lemmas.Order.{worse_right}
@@ -42,18 +42,20 @@ pub unchanged_ended : (past : List Entry) (e : Entry) → e.reply ≡ Reply.Ende
 unchanged_ended past e r = grind (arith, common_steps)
 
 pub ended_kept : (n : ℕ) (past : List Entry) (e : Entry) → IsLegal n (e ∷ past) → e.reply ≡ Reply.Ended → overall (e ∷ past) ≡ overall past
-ended_kept n past e legal r = overall_more n past e legal ∙ rw r refl
+ended_kept n past e legal r = overall_more n past e legal ∙ rw (r, gives_nothing e.op Reply.Ended refl refl) refl
 
 -- a quiet call makes the verdict no worse than this one
-set_within : (w : Verdict) (op : Op) (x : Verdict) → is_quiet w op ≡ true → level_of x ≤ level_of w → level_of (next_local (setting op) x) ≤ level_of w
+set_within : (w : Verdict) (op : Op) (x : Verdict) → is_quiet w op ≡ true → level_of x ≤ level_of w → level_of (next_local (gives op Reply.Ok) x) ≤ level_of w
 set_within w (Op.SetVerdict v) x h l = let m : level_of (given v) ≤ level_of w = grind (arith, nat_tests) in worse_most x (given v) (level_of w) l m
 set_within w Op.StopCase x h l = absurd cc
 set_within w _ x h l = l
 
 gift_within : (w : Verdict) (op : Op) (r : Reply) (x : Verdict) → is_fault r ≡ false → is_quiet w op ≡ true → level_of x ≤ level_of w → level_of (next_local (gives op r) x) ≤ level_of w
-gift_within w op Reply.Ok x f h l = set_within w op x h l
-gift_within w op (Reply.Fault y) x f h l = absurd cc
-gift_within w op _ x f h l = l
+gift_within w op r x f h l = by_test (is_ok r) refl
+  where
+    by_test : (t : Bool) → is_ok r ≡ t → level_of (next_local (gives op r) x) ≤ level_of w
+    by_test true o = rw (ok_is r o) (set_within w op x h l)
+    by_test false o = rw (gives_nothing op r o f) l
 
 pub quiet_within : (w : Verdict) (n : ℕ) (past : List Entry) (e : Entry) → IsLegal n (e ∷ past) → is_quiet w e.op ≡ true → is_fault e.reply ≡ false → level_of (overall past) ≤ level_of w →
     level_of (overall (e ∷ past)) ≤ level_of w
@@ -78,9 +80,7 @@ pub unchanged_quiet : (w : Verdict) (past : List Entry) (e : Entry) → is_quiet
 unchanged_quiet w past e quiet plain = unchanged_passive past e (quiet_passive w e.op quiet) plain
 
 waits_gain : (w : Verdict) (op wake : Op) (r : Reply) → IsWakeOf op wake → is_fault r ≡ false → (next_local (gives op r) w ≡ w) × (next_local (gives wake r) w ≡ w)
-waits_gain w op wake Reply.Ok h f = rw (h.waits, h.wakes) (refl, refl)
-waits_gain w op wake (Reply.Fault x) h f = absurd cc
-waits_gain w op wake _ h f = (refl, refl)
+waits_gain w op wake r h f = rw (gives_if op r f (rw h.waits refl), gives_if wake r f (rw h.wakes refl)) (refl, refl)
 
 waits_passive : (op wake : Op) → IsWakeOf op wake → (is_passive op ≡ true) × (is_passive wake ≡ true)
 waits_passive op wake h = rw (h.waits, h.wakes) (refl, refl)

@@ -1,7 +1,7 @@
 -- Courses of which the same is known, local verdicts and waits included, are so after the next call of either.
 use Rattle.std.proofs.lemmas.Grind.{common_steps}
 use Rattle.std.{proofs.Common.{ℕ, ◌≡◌, ◌==◌, ◌≤◌, ◌⊎◌, inl, inr, not, if◌then◌else◌, Bool, true, false, Option, Some, None, List, [], ◌∷◌, length, refl, ap, sym, subst, ◌∙◌, arith}, specs.List.list_all}
-use Rattle.tc_rules.{specs.{Prelude.{Run, Verdict, Comp, Entry, Op, Phase, Fault, Reply, comps, comp_of, created, started_on, first_some, add_new, ends_case, ends_pass, is_over, phase, local_if_any, overall, gives, awaited, parks, waiting, waits_in_vain, is_still, is_stuck, fault, answer, plain_answer, wake_reply, local_reply, is_active, is_run_of, IsLegal}, declared.awaited.Awaited.Awaited}, proofs.Lemmas.{Deciding.{and_left, equal_if, self_equal}, Going.{halted_by_entry, last_on_it}}}
+use Rattle.tc_rules.{specs.{Prelude.{Run, Verdict, Comp, Entry, Op, Phase, Fault, Reply, comps, comp_of, created, started_on, first_some, add_new, ends_case, ends_pass, is_over, phase, local_if_any, overall, gives, awaited, parks, waiting, waits_in_vain, is_still, is_stuck, fault, answer, plain_answer, local_reply, is_active, is_run_of, IsLegal}, declared.awaited.Awaited.Awaited}, proofs.Lemmas.{Deciding.{and_left, equal_if, gives_nothing, self_equal}, Going.{halted_by_entry, last_on_it}}}
 use Rattle.tc_step.specs.Prelude.{ScriptView}
 use Rattle.tc_course.{specs.{Prelude.{CourseState, stand, next, after_own, turn, IsTurn, IsCourse}, Inside.{ends, wake_if}}, proofs.Lemmas.{course_legal, stand_own, stand_other, stand_comp, stand_unstarted}}
 use Rattle.tc_explore.{specs.Inside.{Simulation.{IsAlike, is_quiet}, Twins.IsTwin}, proofs.{Alike.{active_alike, alike_sym, alike_unchanged, components_same, exists_same, fault_alike, holds_alike, local_next, phase_next, all_same}, Closing.{answer_fault, answer_inactive}, LastCalls.{local_kept, turn_by}, Parking.{alike_then, phase_running}, Simulation.{some_if, unchanged_ended, unchanged_quiet}, Ahead.{answer_plain, active_if}, Places.wake_after}}
@@ -77,9 +77,6 @@ module _ (scripts : List ScriptView) (q p : List Entry) (some : 1 ≤ length scr
   local_reply_twin : (b : ℕ) → local_reply q (comp_of q b) ≡ local_reply p (comp_of p b)
   local_reply_twin b = grind (arith, common_steps)
 
-  wake_twin : (b : ℕ) (a : Awaited) → wake_reply q b a ≡ wake_reply p b a
-  wake_twin b a = rw (holds_alike t.alike a, stuck_twin scripts q p some cq t) refl
-
   plain_twin : (b : ℕ) (op : Op) → AreReplies op (plain_answer q b op) (plain_answer p b op)
   plain_twin b (Op.Create alive name) = inl (rw (components_same t.alike) refl)
   plain_twin b (Op.Running x) = inr (refl, _, _, refl, refl)
@@ -87,7 +84,7 @@ module _ (scripts : List ScriptView) (q p : List Entry) (some : 1 ≤ length scr
   plain_twin b (Op.Done x) = inr (refl, _, _, refl, refl)
   plain_twin b (Op.Killed x) = inr (refl, _, _, refl, refl)
   plain_twin b (Op.Wait k x) = inl (rw (holds_alike t.alike (record { killed = k; target = x })) refl)
-  plain_twin b (Op.Wake k x) = inl (wake_twin b (record { killed = k; target = x }))
+  plain_twin b (Op.Wake k x) = inl (rw (holds_alike t.alike (record { killed = k; target = x }), stuck_twin scripts q p some cq t) refl)
   plain_twin b Op.GetVerdict = inl (local_reply_twin b)
   plain_twin b _ = inl refl
 
@@ -137,7 +134,7 @@ twin_both scripts q p e cq cp t = record {
 pub twin_ended : (scripts : List ScriptView) (q p : List Entry) (e : Entry) → IsCourse scripts (e ∷ p) → is_active p e.caller.0 ≡ false → IsTwin q p → IsTwin q (e ∷ p)
 twin_ended scripts q p e cp off t = record {
   alike = alike_then q p (e ∷ p) t.alike (alike_sym (e ∷ p) p after);
-  locals = λ c. t.locals c ∙ sym (local_kept p e c (ap (gives e.op) r));
+  locals = λ c. t.locals c ∙ sym (local_kept p e c (ap (gives e.op) r ∙ gives_nothing e.op Reply.Ended refl refl));
   stands = λ b act. by_caller b act (e.caller.0 == b) refl;
 }
   where
@@ -160,7 +157,7 @@ question_quiet w (Op.Running t) h = refl
 question_quiet w _ h = cc
 
 gives_answer : (op : Op) (x : Bool) → gives op (Reply.Answer x) ≡ []
-gives_answer op x = refl
+gives_answer op x = gives_nothing op (Reply.Answer x) refl refl
 
 abbrev entry_of : Run → Op → Reply → Entry
 entry_of caller op reply = record { caller = caller; op = op; reply = reply }

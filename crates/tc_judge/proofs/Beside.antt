@@ -5,10 +5,10 @@ use Rattle.tc_reader.specs.Prelude.{is_text, CampaignView, Word, add, among, has
 use Rattle.tc_step.specs.Prelude.{ScriptView}
 use Rattle.tc_course.specs.Prelude.{IsShown}
 use Rattle.tc_rules.specs.Prelude.{Entry}
-use Rattle.tc_answer.{specs.{Prelude.{CaseView, scripts_of, RefusesChoice, blocks_part, script_part}, Inside.{AreReady, IsCaseOf}, declared.fault.RunFault.RunFault}, proofs.Lemmas.Chosen.{or_left, or_right}}
+use Rattle.tc_answer.{specs.{Prelude.{AreChosen, CaseView, scripts_of, RefusesChoice, blocks_part, script_part}, Inside.{AreReadyAs, IsCaseOf}, declared.fault.RunFault.RunFault}, proofs.Lemmas.Chosen.{or_left, or_right}}
 use Rattle.tc_exec.specs.declared.test_case.Case.{Case}
 use Rattle.tc_command.specs.declared.task.Choice.{Choice}
-use Rattle.tc_judge.{specs.{Check.RefusesHistory, Compared.{AreJudged, IsJudged, RefusesAgainst, has_block_named, has_later, missing, note, place_in}, Inside.{AreComparable, IsJudgedBlock, IsWholeOfBlock, Judges, Meets, StandsBeside}, declared.{compare.{Comparing.Comparing, Wrong.Wrong}, judged.Judged.Judged, kept.Whole.Whole}}, proofs.{Counting.same_word, Lemmas.few_jobs, Passing.among_added}}
+use Rattle.tc_judge.{specs.{Check.RefusesHistory, Compared.{IsCompared, IsJudged, RefusesAgainst, has_block_named, has_later, missing, note, place_in}, Inside.{AreComparable, IsJudgedBlock, IsWholeOfBlock, Judges, Meets, StandsBeside}, declared.{compare.{Comparing.Comparing, Wrong.Wrong}, judged.Judged.Judged, kept.Whole.Whole}}, proofs.{Counting.same_word, Lemmas.few_jobs, Passing.among_added}}
 
 -- ---- test cases by name
 
@@ -117,7 +117,7 @@ beside_none c cases names each met next = record {
 }
 
 -- the chosen test cases of a script can be compared
-pub comparable : (choice : Choice) (text : List ℕ) (ready : List (Case ScriptView)) → AreReady choice text ready → AreComparable ready
+pub comparable : (choice : Choice) (text : List ℕ) (ready : List (Case ScriptView)) → AreReadyAs (AreChosen choice text) ready → AreComparable ready
 comparable choice text ready are = record {
   distinct = ap has_twice (same_names are.cases ready are.each) ∙ are.distinct;
   few = few_jobs are.cases ready are.each are.lawful;
@@ -136,7 +136,7 @@ script_refused choice text (RunFault.Text fault) refused = absurd refused
 script_refused choice text _ refused = refused
 
 -- the blocks are refused, after a script that is not
-pub blocks_refused : (choice : Choice) (text : List ℕ) (ready : List (Case ScriptView)) (fault : RunFault) → AreReady choice (script_part text) ready
+pub blocks_refused : (choice : Choice) (text : List ℕ) (ready : List (Case ScriptView)) (fault : RunFault) → AreReadyAs (AreChosen choice (script_part text)) ready
     → RefusesHistory (blocks_part text) fault → RefusesAgainst choice text fault
 blocks_refused choice text ready (RunFault.Text fault) are refused = ((are.cases, are.chosen), refused)
 blocks_refused choice text ready RunFault.NoMemory are refused = tt
@@ -150,16 +150,17 @@ pub ruleset refusing_rules = (script_refused, blocks_refused, comparable)
 abbrev pub ComparedTo : List (Case ScriptView) → List (Judged Whole) → ℕ → Comparing → List ℕ → Type 0
 ComparedTo ready js i c out =
     (cases : CampaignView) (blocks : List Block) → AllZip IsCaseOf cases ready → AllZip (IsJudgedBlock IsWholeOfBlock) blocks js
-    → StandsBeside cases (reverse (take i blocks)) c × AreJudged cases (reverse (take i blocks)) out
+    → StandsBeside cases (reverse (take i blocks)) c
+    × ((rest : List ℕ) → IsCompared cases (reverse (take i blocks)) (drop i blocks) rest → IsCompared cases [] blocks (out ++ rest))
 
 block_at : {K : Type 0} (keeps : Block → K → Type 0) (bs : List Block) (js : List (Judged K)) (i : ℕ) (j : Judged K) → AllZip (IsJudgedBlock keeps) bs js → i < length js → get_or js i j ≡ j
-    → (b : Block) × IsJudgedBlock keeps b j × (take (i + 1) bs ≡ take i bs ++ b ∷ [])
+    → (b : Block) × IsJudgedBlock keeps b j × (take (i + 1) bs ≡ take i bs ++ b ∷ []) × (drop i bs ≡ b ∷ drop (i + 1) bs)
 block_at keeps [] [] i j each within item = absurd (omega (arith, within))
-block_at keeps (b ∷ bs) (k ∷ js) zero j each within item = let is : k ≡ j = item in (b, subst (IsJudgedBlock keeps b) is each.0, refl)
+block_at keeps (b ∷ bs) (k ∷ js) zero j each within item = let is : k ≡ j = item in (b, subst (IsJudgedBlock keeps b) is each.0, refl, refl)
 block_at keeps (b ∷ bs) (k ∷ js) (suc i) j each within item =
     let rest = block_at keeps bs js i j each.1 (omega (arith, within)) item in
     let on : suc i + 1 ≡ suc (i + 1) = omega arith in
-    (rest.0, rest.1, ap (λ n. take n (b ∷ bs)) on ∙ ap (λ l. b ∷ l) rest.2)
+    (rest.0, rest.1, ap (λ n. take n (b ∷ bs)) on ∙ ap (λ l. b ∷ l) rest.2, rest.3 ∙ ap (λ n. rest.0 ∷ drop n (b ∷ bs)) (sym on))
 block_at keeps _ _ i j each within item = absurd each
 
 -- one block more
@@ -170,7 +171,10 @@ compared_more ready js i j c after out new wrong within item so judges said meet
     let past = reverse (take i blocks) in
     let more : reverse (take (i + 1) blocks) ≡ at.0 ∷ past = ap reverse at.2 ∙ reverse-append (take i blocks) (at.0 ∷ []) in
     let before = so cases blocks each judged in
-    let told : new ≡ out ++ option_map_or (note at.0.header.name) wrong [] = said ∙ ap (λ n. out ++ option_map_or (note n) wrong []) at.1.name in (
+    let text = option_map_or (note at.0.header.name) wrong [] in
+    let told : new ≡ out ++ text = said ∙ ap (λ n. out ++ option_map_or (note n) wrong []) at.1.name in (
       subst (λ l. StandsBeside cases l after) (sym more) (meets cases past at.0 at.1.name before.0),
-      subst (λ l. AreJudged cases l new) (sym more) (subst (AreJudged cases (at.0 ∷ past)) (sym told) (AreJudged.more past out at.0 wrong before.1 (judges cases past at.0 at.1 before.0))),
+      λ rest goes. subst (IsCompared cases [] blocks) (sym (append_assoc out text rest) ∙ ap (λ l. l ++ rest) (sym told))
+          (before.1 (text ++ rest) (subst (λ l. IsCompared cases past l (text ++ rest)) (sym at.3)
+          (wrong, rest, judges cases past at.0 at.1 before.0, subst (λ l. IsCompared cases l (drop (i + 1) blocks) rest) more goes, refl))),
     )

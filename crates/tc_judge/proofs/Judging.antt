@@ -41,19 +41,19 @@ illegal_said b (Judgement.OtherVerdict line given verdict) illegal is =
 module _ {K : Type 0} (keeps : Block → K → Type 0) where
   -- what is printed for the blocks
   pub lines_checked : (picks : Word → Verdict → Bool) (bs : List Block) (js : List (Judged K)) → AllZip (IsJudgedBlock keeps) bs js
-      → Checks (picked_by picks) bs (printed picks js) (not (is_some (first_illegal js)))
+      → Checks (picked_by picks) bs (printed picks js) (if is_some (first_illegal js) then 3 else 0)
   lines_checked picks [] [] each = Checks.none
   lines_checked picks (b ∷ bs) (j ∷ js) each = by j.judgement each.0.judgement (lines_checked picks bs js each.1)
     where
       line : Judgement → List ℕ
       line k = line_of_judgement (picks j.name j.verdict) j.name j.verdict k
 
-      by : (k : Judgement) → IsJudgement b k → Checks (picked_by picks) bs (printed picks js) (not (is_some (first_illegal js)))
+      by : (k : Judgement) → IsJudgement b k → Checks (picked_by picks) bs (printed picks js) (if is_some (first_illegal js) then 3 else 0)
           → Checks (picked_by picks) (b ∷ bs) (if judges_legal k then line k ++ printed picks js else line k)
-          (not (is_some (cond (not (judges_legal k)) (Some k) (first_illegal js))))
+          (if is_some (cond (not (judges_legal k)) (Some k) (first_illegal js)) then 3 else 0)
       by (Judgement.Legal entries) is rest =
           rw (each.0.name, each.0.verdict, is.1)
-          (Checks.goes_on b bs (block_line b) (printed picks js) (not (is_some (first_illegal js))) (is.0, refl) rest)
+          (Checks.goes_on b bs (printed picks js) (if is_some (first_illegal js) then 3 else 0) is.0 rest)
       by k is rest = Checks.stops b bs (illegal_line k) (illegal_said b k refl is)
   lines_checked picks _ _ each = absurd each
 
@@ -64,7 +64,7 @@ module _ {K : Type 0} (keeps : Block → K → Type 0) where
     where
       more : IsLegalBlock b → (o : Option Judgement) → IsFirstIllegal bs o → IsFirstIllegal (b ∷ bs) o
       more legal None rest = All-cons IsLegalBlock b bs legal rest
-      more legal (Some k) rest = Checks.goes_on b bs (block_line b) (illegal_line k) false (legal, refl) rest
+      more legal (Some k) rest = Checks.goes_on b bs (illegal_line k) 3 legal rest
 
       by : (k : Judgement) → IsJudgement b k → IsFirstIllegal bs (first_illegal js)
           → IsFirstIllegal (b ∷ bs) (cond (not (judges_legal k)) (Some k) (first_illegal js))
@@ -115,20 +115,12 @@ module _ {K : Type 0} (keeps : Block → K → Type 0) where
   pub all_checked : (last : Bool) (picks : Word → Verdict → Bool) (text out : List ℕ) (status : ℕ) (js : List (Judged K)) → AreJudgedIn keeps last text js
       → out ≡ printed picks js → status ≡ (if is_some (first_illegal js) then 3 else 0) → IsChecked last (picked_by picks) text out status
   all_checked last picks text out status js are lines status_is = record {
-    legal = not (is_some (first_illegal js));
-    checks = record {
-      blocks = are.blocks;
-      evidence = are.evidence;
-      holds = λ all is.
-          let bs = counting last all in
-          subst (λ l. Checks (picked_by picks) bs l (not (is_some (first_illegal js)))) (sym lines) (lines_checked picks bs js (are.holds all is));
-    };
-    status_is = by (is_some (first_illegal js)) status_is;
+    blocks = are.blocks;
+    evidence = are.evidence;
+    holds = λ all is.
+        let bs = counting last all in
+        subst (λ l. Checks (picked_by picks) bs l status) (sym lines) (subst (Checks (picked_by picks) bs (printed picks js)) (sym status_is) (lines_checked picks bs js (are.holds all is)));
   }
-    where
-      by : (some : Bool) → status ≡ (if some then 3 else 0) → status ≡ (if not some then 0 else 3)
-      by true is = is
-      by false is = is
 
   pub blocks_checked : (choice : Choice) (only : List Word) (text out : List ℕ) (status : ℕ) (js : List (Judged K)) → only ≡ choice.only.items → AreJudgedIn keeps choice.last text js
       → names_found choice js ≡ true → out ≡ printed (is_picked only choice.failed) js

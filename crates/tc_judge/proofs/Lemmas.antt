@@ -115,20 +115,20 @@ abbrev pub block_line : Block → List ℕ
 block_line b = legal_line b.header.name (length (entries_of b.lines)) b.verdict
 
 -- whichever of them are printed, legal blocks are found legal
-found_all : (test : Block → Bool) (bs : List Block) (out : List ℕ) (legal : Bool) → All IsLegalBlock bs → Checks test bs out legal
-    → (out ≡ flat_map (λ b. if test b then block_line b else []) bs) × (legal ≡ true)
+found_all : (test : Block → Bool) (bs : List Block) (out : List ℕ) (status : ℕ) → All IsLegalBlock bs → Checks test bs out status
+    → (out ≡ flat_map (λ b. if test b then block_line b else []) bs) × (status ≡ 0)
 found_all test _ _ _ all Checks.none = (refl, refl)
-found_all test _ _ _ all (Checks.goes_on b rest line out legal says more) =
-    let two = found_all test rest out legal (All-tail IsLegalBlock b rest all) more in
-    (ap₂ (λ x y. (if test b then x else []) ++ y) says.1 two.0, two.1)
+found_all test _ _ _ all (Checks.goes_on b rest out status legal more) =
+    let two = found_all test rest out status (All-tail IsLegalBlock b rest all) more in
+    (ap (λ l. (if test b then block_line b else []) ++ l) two.0, two.1)
 found_all test _ _ _ all (Checks.stops b rest line says) = absurd (no_other b line (All-head IsLegalBlock b rest all) says)
 
-pub only_legal : (bs : List Block) (out : List ℕ) (legal : Bool) → All IsLegalBlock bs → Checks each bs out legal → (out ≡ flat_map block_line bs) × (legal ≡ true)
+pub only_legal : (bs : List Block) (out : List ℕ) (status : ℕ) → All IsLegalBlock bs → Checks each bs out status → (out ≡ flat_map block_line bs) × (status ≡ 0)
 only_legal = found_all each
 
 -- and none of them is found not to be
-pub none_illegal : (bs : List Block) (line : List ℕ) → All IsLegalBlock bs → Checks (λ b. false) bs line false → ⊥
-none_illegal bs line all checks = false≢true (found_all (λ b. false) bs line false all checks).1
+pub none_illegal : (bs : List Block) (line : List ℕ) → All IsLegalBlock bs → Checks (λ b. false) bs line 3 → ⊥
+none_illegal bs line all checks = let none = (found_all (λ b. false) bs line 3 all checks).1 in omega (arith, none)
 
 -- ---- test cases have few behaviours
 

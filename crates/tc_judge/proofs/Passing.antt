@@ -5,7 +5,7 @@ use Rattle.tc_command.specs.declared.task.Choice.{Choice}
 use Rattle.tc_blocks.specs.declared.block.Block.{Block}
 use Rattle.tc_reader.specs.Prelude.{is_text, CampaignView, IsCase, Word, add, among}
 use Rattle.tc_step.specs.Prelude.{ScriptView}
-use Rattle.tc_answer.{specs.{Prelude.{AreChosen, blocks_part, script_part, CaseView}, Inside.{AreReady, AreReadyAs, IsCaseOf, script_name}}, proofs.Lemmas.Chosen.{distinct_filtered, or_left, or_right, zip_filter}}
+use Rattle.tc_answer.{specs.{Prelude.{AreChosen, blocks_part, script_part, CaseView}, Inside.{AreReadyAs, IsCaseOf, script_name}}, proofs.Lemmas.Chosen.{distinct_filtered, or_left, or_right, zip_filter}}
 use Rattle.tc_judge.{specs.{Inside.{AreJudgedIn, HasSeen, IsJudgedBlock, IsJudgement, KeepsNothing, fails, judges_legal, passes, shows_passed, with_failed}, Compared.{AreToRun, AreUnpassed, HasPassed}, Check.{IsLegalBlock, counting, is_passing}, declared.{judged.Judged.Judged, kept.Nothing.Nothing, passed.Seen.Seen, playing.Judgement.Judgement}}, proofs.{Counting.same_word, Judging.any_named, Lemmas.no_difference}}
 
 -- ---- names
@@ -126,7 +126,7 @@ passed_by_names bs js s each seen n = (
 -- ---- test cases
 
 -- of the chosen test cases of a script those that have not passed are ready to be run
-pub ready_unpassed : (choice : Choice) (text : List ℕ) (ks rs : List (Case ScriptView)) (js : List (Judged Nothing)) (s : Seen) → AreReady choice (script_part text) ks
+pub ready_unpassed : (choice : Choice) (text : List ℕ) (ks rs : List (Case ScriptView)) (js : List (Judged Nothing)) (s : Seen) → AreReadyAs (AreChosen choice (script_part text)) ks
     → AreJudgedIn KeepsNothing choice.last (blocks_part text) js → HasSeen js s → rs ≡ filter (λ k. not (shows_passed s k.name)) ks
     → AreReadyAs (AreUnpassed choice text) rs
 ready_unpassed choice text ks rs js s are judged seen left =
@@ -157,7 +157,7 @@ to_run_by left_out choice = elim left_out [ true ↦ AreUnpassed choice | false 
 pub to_run_left : (choice : Choice) (text : List ℕ) (ks : List (Case ScriptView)) → choice.failed ≡ true → AreReadyAs (AreUnpassed choice text) ks → AreReadyAs (AreToRun choice text) ks
 to_run_left choice text ks is are = subst (λ b. AreReadyAs (to_run_by b choice text) ks) (sym is) are
 
-pub to_run_chosen : (choice : Choice) (text : List ℕ) (ks : List (Case ScriptView)) → choice.failed ≡ false → AreReady choice text ks → AreReadyAs (AreToRun choice text) ks
+pub to_run_chosen : (choice : Choice) (text : List ℕ) (ks : List (Case ScriptView)) → choice.failed ≡ false → AreReadyAs (AreChosen choice text) ks → AreReadyAs (AreToRun choice text) ks
 to_run_chosen choice text ks is are = subst (λ b. AreReadyAs (to_run_by b choice text) ks) (sym is) are
 
 pub ruleset to_run_rules = (to_run_left, to_run_chosen)

@@ -1,8 +1,8 @@
 -- What `check` prints for histories and evidence, and of them the chosen.
-use Rattle.std.specs.{Prelude.{ℕ, ◌≡◌, ◌≢◌, ◌⊎◌, ◌+◌, Bool, true, false, if◌then◌else◌, List, [], ◌∷◌, ◌++◌, length, reverse, codes, MatchResult, Option, Result, Err, ◌==◌, ◌&&◌, fold, not, IfSome}, Fmt.decimal}
+use Rattle.std.specs.{Prelude.{ℕ, ◌≡◌, ◌≢◌, ◌⊎◌, ◌+◌, Bool, true, false, if◌then◌else◌, List, [], ◌∷◌, ◌++◌, length, reverse, codes, MatchResult, IsErrAnd, Option, Result, ◌==◌, ◌&&◌, fold, not, IfSome}, Fmt.decimal}
 use Rattle.tc_rules.specs.Prelude.{Verdict, name_of, Entry, Reply, answer}
 use Rattle.tc_text.specs.Prelude.{reply_text}
-use Rattle.tc_blocks.specs.{declared.{block.Block.Block, limit.Limit.Limit, line.Line.Line}, Prelude.{entries_of, LinesAreLegal, overall_of, AreEvidence, IsPastLimit, HoldsOfBlocks, IsFault, IsHeader, IsReadIn}}
+use Rattle.tc_blocks.specs.{declared.{block.Block.Block, limit.Limit.Limit, line.Line.Line}, Prelude.{entries_of, LinesAreLegal, overall_of, AreEvidence, IsInLimit, HoldsOfBlocks, IsFault, IsHeader, IsReadIn}}
 use Rattle.tc_command.specs.declared.task.Choice.{Choice}
 use Rattle.tc_answer.specs.{Prelude.{have_names, RefusesText, is_asked}, declared.{fault.RunFault.RunFault, limits.TheConstants.HISTORY_LIMIT, reply.Answer.Answer}}
 use Rattle.tc_report.specs.Prelude.{verdict_status}
@@ -55,21 +55,17 @@ pub data IsIllegalLine (b : Block) (line : List ℕ) : Type 0 where
   other_verdict : LinesAreLegal b.header.behaviours b.lines → b.verdict ≢ overall_of b.lines
       → line ≡ disagreeing_line (b.first_line + length b.lines + 1) (name_of b.verdict) (name_of (overall_of b.lines)) → IsIllegalLine b line
 
--- what is printed for blocks, one after the other up to the first that is not legal, and whether all are legal; of the
--- legal ones only the chosen have a line
-pub data Checks (is_chosen : Block → Bool) : List Block → List ℕ → Bool → Type 0 where
-  none : Checks is_chosen [] [] true
-  goes_on : (b : Block) (rest : List Block) (line out : List ℕ) (legal : Bool)
-      → IsLegalBlock b × (line ≡ legal_line b.header.name (length (entries_of b.lines)) b.verdict)
-      → Checks is_chosen rest out legal → Checks is_chosen (b ∷ rest) ((if is_chosen b then line else []) ++ out) legal
-  stops : (b : Block) (rest : List Block) (line : List ℕ) → IsIllegalLine b line → Checks is_chosen (b ∷ rest) line false
+-- What is printed for blocks, one after the other up to the first that is not legal: of the legal ones only the chosen have a
+-- line. And the status, 0 if all are legal, otherwise 3.
+pub data Checks (is_chosen : Block → Bool) : List Block → List ℕ → ℕ → Type 0 where
+  none : Checks is_chosen [] [] 0
+  goes_on : (b : Block) (rest : List Block) (out : List ℕ) (status : ℕ) → IsLegalBlock b → Checks is_chosen rest out status
+      → Checks is_chosen (b ∷ rest) ((if is_chosen b then legal_line b.header.name (length (entries_of b.lines)) b.verdict else []) ++ out) status
+  stops : (b : Block) (rest : List Block) (line : List ℕ) → IsIllegalLine b line → Checks is_chosen (b ∷ rest) line 3
 
--- Of the blocks of the text that count, this output says which of the chosen are legal, and which is the first of all that
--- is not. The status is 0 if all are, otherwise 3.
-pub record IsChecked (last : Bool) (is_chosen : Block → Bool) (text out : List ℕ) (status : ℕ) : Type 0 where
-  pub legal : Bool
-  pub checks : HoldsOfBlocks text (λ all. Checks is_chosen (counting last all) out legal)
-  pub status_is : status ≡ (if legal then 0 else 3)
+-- of the blocks of the text that count, this output says which of the chosen are legal, and which is the first of all that is not
+abbrev pub IsChecked : Bool → (Block → Bool) → List ℕ → List ℕ → ℕ → Type 0
+IsChecked last is_chosen text out status = HoldsOfBlocks text (λ all. Checks is_chosen (counting last all) out status)
 
 -- a text is refused as one of histories and evidence, and is none of any
 abbrev pub RefusesHistory : List ℕ → RunFault → Type 0
@@ -102,12 +98,11 @@ history_limit long = if long then Limit.Blocks HISTORY_LIMIT else Limit.Whole HI
 
 -- the input was not read whole: it has more bytes than it may have, or the device failed, or memory ran out
 abbrev pub IsUnreadIn : Limit → Option (List ℕ) → RunFault → Type 0
-IsUnreadIn limit input RunFault.TooLong = IfSome input (IsPastLimit limit)
+IsUnreadIn limit input RunFault.TooLong = IfSome input (λ text. IsInLimit limit text → ⊥)
 IsUnreadIn limit input RunFault.Read = Unit {0}
 IsUnreadIn limit input RunFault.NoMemory = Unit {0}
 IsUnreadIn limit input fault = ⊥
 
 -- the input was read, and this is made of its text; or it was not, and the fault says why
 abbrev pub IsMadeOfInput : Limit → Option (List ℕ) → (List ℕ → Result Answer RunFault → Type 0) → Result Answer RunFault → Type 0
-IsMadeOfInput limit input Made made =
-    IsReadIn limit input (λ text. Made text made) ⊎ ((fault : RunFault) × (made ≡ Err fault) × IsUnreadIn limit input fault)
+IsMadeOfInput limit input Made made = IsReadIn limit input (λ text. Made text made) ⊎ IsErrAnd made (IsUnreadIn limit input)

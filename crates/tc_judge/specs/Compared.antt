@@ -40,21 +40,15 @@ wrong_text Wrong.Missing = codes "missing "
 abbrev pub note : Word → Wrong → List ℕ
 note name wrong = wrong_text wrong ++ (name ++ (10 ∷ []))
 
--- what is said of these blocks, the newest first
-pub data AreJudged (cases : CampaignView) : List Block → List ℕ → Type 0 where
-  none : AreJudged cases [] []
-  more : (before : List Block) (notes : List ℕ) (b : Block) (wrong : Option Wrong) → AreJudged cases before notes → IsJudged cases before b wrong
-      → AreJudged cases (b ∷ before) (notes ++ option_map_or (note b.header.name) wrong [])
-
 -- the names of test cases, in their order, that none of these blocks has
 abbrev pub missing : List Block → CampaignView → List Word
 missing blocks cases = filter (λ n. not (has_block_named blocks n)) (map (λ c. c.0) cases)
 
--- what is said of the blocks of test cases, one after the other, and then of the test cases that have none
-pub record IsCompared (cases : CampaignView) (blocks : List Block) (out : List ℕ) : Type 0 where
-  pub notes : List ℕ
-  pub judged : AreJudged cases (reverse blocks) notes
-  pub out_is : out ≡ notes ++ flat_map (λ n. note n Wrong.Missing) (missing (reverse blocks) cases)
+-- what is said of blocks, one after the other, that come after these, the newest first, and then of the test cases that none is of
+abbrev pub IsCompared : CampaignView → List Block → List Block → List ℕ → Type 0
+IsCompared cases before [] out = out ≡ flat_map (λ n. note n Wrong.Missing) (missing before cases)
+IsCompared cases before (b ∷ blocks) out = (wrong : Option Wrong) × (rest : List ℕ) × IsJudged cases before b wrong
+    × IsCompared cases (b ∷ before) blocks rest × (out ≡ option_map_or (note b.header.name) wrong [] ++ rest)
 
 -- ---- a whole text
 
@@ -65,13 +59,13 @@ pub record IsBeside (choice : Choice) (text : List ℕ) (Is : CampaignView → L
   pub chosen : AreChosen choice (script_part text) cases
   pub notes : List ℕ
   pub holds : HoldsOfBlocks (blocks_part text) (λ all.
-      let blocks = counting choice.last all in IsCompared cases blocks notes × Is cases blocks notes)
+      let blocks = counting choice.last all in IsCompared cases [] blocks notes × Is cases blocks notes)
 
 -- What `check` prints for the blocks is printed, and then what is wrong. The status is that of `check` if nothing is wrong, otherwise 3.
 abbrev pub IsCheckedAgainst : Choice → List ℕ → List ℕ → ℕ → Type 0
 IsCheckedAgainst choice text out status = IsBeside choice text (λ cases blocks notes.
-    (lines : List ℕ) × (legal : Bool) × Checks (λ b. true) blocks lines legal × (out ≡ lines ++ notes)
-    × (status ≡ (if length notes == 0 then (if legal then 0 else 3) else 3)))
+    (lines : List ℕ) × (checked : ℕ) × Checks (λ b. true) blocks lines checked × (out ≡ lines ++ notes)
+    × (status ≡ (if length notes == 0 then checked else 3)))
 
 -- The script is refused, or a name that is asked for. If neither is, the text after it may be refused as one of histories
 -- and evidence, its lines counted from its own first.

@@ -173,7 +173,7 @@ judged_text js = flat_map judged_report js ++ verdicts_closing (map (λ j. j.ver
 -- this is the judgement of the first of these blocks that is not legal, if there is one
 abbrev pub IsFirstIllegal : List Block → Option Judgement → Type 0
 IsFirstIllegal blocks None = All IsLegalBlock blocks
-IsFirstIllegal blocks (Some judgement) = Checks (λ b. false) blocks (illegal_line judgement) false
+IsFirstIllegal blocks (Some judgement) = Checks (λ b. false) blocks (illegal_line judgement) 3
 
 -- and these are the test cases of the chosen ones, if there is none
 abbrev pub Reports : List Block → List Block → List Summary → Option Judgement → Type 0
@@ -218,7 +218,7 @@ pub record AreComparable (ready : List (Case ScriptView)) : Type 0 where
 
 -- this is said of blocks next to test cases, and these are missing
 abbrev pub Finds : CampaignView → List Block → Comparison → Type 0
-Finds cases blocks r = IsCompared cases blocks r.notes.items × (r.missing.items ≡ missing (reverse blocks) cases)
+Finds cases blocks r = IsCompared cases [] blocks r.notes.items × (r.missing.items ≡ missing (reverse blocks) cases)
 
 -- the blocks after a script were judged so, and this is found of those that count next to its chosen test cases
 pub record AreComparedIn (choice : Choice) (text : List ℕ) (js : List (Judged Whole)) (r : Comparison) : Type 0 where

@@ -31,7 +31,7 @@ AnswersCases form text chosen notes ss a =
 pub data IsReport (form : ReportForm) (text : List ℕ) (blocks chosen : List Block) (missing : List (List ℕ)) (notes : List ℕ) (a : Answer) : Type 0 where
   legal : All IsLegalBlock blocks → AnswersCases form text chosen notes (map block_summary chosen ++ map (bare_summary CaseEnd.Missing) missing) a
       → IsReport form text blocks chosen missing notes a
-  illegal : (line : List ℕ) → Checks (λ b. false) blocks line false → a ≡ record { out = []; told = codes "ttrun: " ++ line; status = 3 } → IsReport form text blocks chosen missing notes a
+  illegal : (line : List ℕ) → Checks (λ b. false) blocks line 3 → a ≡ record { out = []; told = codes "ttrun: " ++ line; status = 3 } → IsReport form text blocks chosen missing notes a
 
 -- this is answered for the blocks of the text that count and are chosen
 abbrev pub IsReported : ReportForm → Bool → (Block → Bool) → List ℕ → Answer → Type 0

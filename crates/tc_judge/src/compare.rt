@@ -5,8 +5,8 @@ ghost use Rattle.std.specs.List.{AllZip, flat_map};
 ghost use Rattle.tc_entry.specs.declared.limits.TheConstants.{BEHAVIOURS};
 ghost use Rattle.tc_blocks.specs.declared.block.Block.{Block};
 ghost use Rattle.tc_reader.specs.Prelude.{CampaignView, among, is_text};
-ghost use Rattle.tc_answer.specs.Prelude.{script_part};
-ghost use Rattle.tc_answer.specs.Inside.{AreReady, IsCaseOf};
+ghost use Rattle.tc_answer.specs.Prelude.{AreChosen, script_part};
+ghost use Rattle.tc_answer.specs.Inside.{AreReadyAs, IsCaseOf};
 ghost use Rattle.tc_judge.specs.{Compared.IsCheckedAgainst, Compared.IsReportedAgainst, Compared.RefusesAgainst, Compared.note, Compared.wrong_text, Inside.AreComparable, Inside.AreComparedIn, Inside.Finds, Inside.IsJudgedBlock, Inside.IsWhole, Inside.IsWholeOfBlock, Inside.Judges, Inside.Meets, Inside.StandsBeside, declared.compare.Wrong.TheVariants.Missing};
 
 use crate::check::checked_status;
@@ -210,7 +210,7 @@ pub(crate) fn chosen_before(
     choice: &Choice,
     text: &[u8],
 ) -> Result<Vec<Case<Script>>, RunFault>
-    ensures ready { IfOk result (λ v. AreReady choice.now (script_part text.now) v.items) }
+    ensures ready { IfOk result (λ v. AreReadyAs (AreChosen choice.now (script_part text.now)) v.items) }
     ensures refused { IfErr result (RefusesAgainst choice.now text.now) }
 {
     let (script, _) = split_script(text);

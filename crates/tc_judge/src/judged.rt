@@ -210,8 +210,8 @@ pub fn counted<B: Named + Drop>(
     Ok(last.into_values().collect(alloc)?)
 }
 
-// How many bytes histories may have: all together, or, if they may be long, each block.
-fn limit_of(long: bool) -> Limit
+/// How many bytes histories may have: all together, or, if they may be long, each block.
+pub fn limit_of(long: bool) -> Limit
     ensures is { result ≡ history_limit long }
     ensures most { most_of result < usize.MAX }
 {

@@ -12,7 +12,7 @@ mod report;
 
 pub use check::{check_input, check_text};
 pub use compare::{compare_text, report_compared};
-pub use judged::{Named, counted};
+pub use judged::{Named, counted, limit_of};
 pub use lines::{is_picked, patterns_match};
 pub use passed::cases_to_run;
 pub use playing::play_short;

@@ -6,31 +6,10 @@ use Rattle.tc_model.specs.{Naming.{can_name, lacking, starters, starts}, declare
 
 -- ---- whether a component is one of some
 
--- one of the components has this number
-abbrev pub has_comp : ℕ → List Comp → Bool
-has_comp c cs = list_any (λ (d : Comp). c == d.0) cs
-
--- that is what the component table's word says of their numbers
-is_in_any : (c : ℕ) (cs : List Comp) → is_in c (map (λ d. d.0) cs) ≡ has_comp c cs
+-- whether one of the components has this number
+pub is_in_any : (c : ℕ) (cs : List Comp) → is_in c (map (λ d. d.0) cs) ≡ list_any (λ (d : Comp). c == d.0) cs
 is_in_any c [] = refl
 is_in_any c (d ∷ cs) = ap (λ t. (c == d.0) || t) (is_in_any c cs)
-
--- the next component is the one that is looked for
-pub in_at : (cs : List Comp) (i : ℕ) (d : Comp) (c : ℕ) → i < length cs → (get_or cs i d).0 ≡ c → is_in c (map (λ d. d.0) cs) ≡ true
-in_at cs i d c within here = is_in_any c cs ∙ list_any_at (λ (x : Comp). c == x.0) cs i d within (grind (arith, nat_tests))
-
--- it is another
-pub not_in_more : (cs : List Comp) (i : ℕ) (d : Comp) (c : ℕ) → i < length cs → (get_or cs i d).0 ≢ c → has_comp c (take i cs) ≡ false →
-    has_comp c (take (i + 1) cs) ≡ false
-not_in_more cs i d c within other before =
-    let no : (c == (get_or cs i d).0) ≡ false = grind (arith, nat_tests) in
-    rw (list_any_more (λ (x : Comp). c == x.0) cs i d within, before, no) refl
-
--- there is no next one
-pub not_in_all : (cs : List Comp) (i c : ℕ) → length cs ≤ i → has_comp c (take i cs) ≡ false → is_in c (map (λ d. d.0) cs) ≡ false
-not_in_all cs i c whole none = is_in_any c cs ∙ (ap (has_comp c) (sym (take_all i cs whole)) ∙ none)
-
-pub ruleset in_rules = (in_at, not_in_more, not_in_all)
 
 -- ---- who lacks a component
 

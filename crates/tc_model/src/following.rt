@@ -112,10 +112,7 @@ fn with_entry(
     if let Some(reason) = ways.take(alloc, &course, entry)? {
         return Ok(Err(reason));
     }
-    match course.with(entry.caller, entry.op.copy()) {
-        Ok(course) => Ok(Ok(course)),
-        Err(error) => Err(error),
-    }
+    Ok(Ok(course.with(entry.caller, entry.op.copy())?))
 }
 
 // Why the course, which the block is, is no complete one with its verdict, if it is none.

@@ -1,5 +1,5 @@
 //! What the runs of a model can name, and what each is given for that.
-ghost use Rattle.std.specs.{Prelude.{◌≡◌, ◌<◌, ◌++◌, ◌∷◌, [], All, IfOk, OnOk, length, map, nat_le}, List.list_any, Option.{option_map_or, option_to_list}};
+ghost use Rattle.std.specs.{Prelude.{◌≡◌, ◌==◌, ◌<◌, ◌++◌, ◌∷◌, [], All, IfOk, OnOk, length, map, nat_le}, List.list_any, Option.{option_map_or, option_to_list}};
 ghost use Rattle.tc_rules.specs.Prelude.{is_in as spec_is_in, names, past_of, start};
 ghost use Rattle.tc_model.specs.{Inside.{AreAllGiven, AreGiven, AreLacks, AreStartedWith, AreStarts, AreWays, AreWithin, IsGivenOnly, IsTaken, is_given_many, some_lack}, Naming.{can_name as spec_can_name, lacking as spec_lacking}, Reasons.CanCall};
 
@@ -37,28 +37,20 @@ pub(crate) struct Ways {
 }
 
 // Whether the component is one of these.
-#[tactic(auto, using(crate::proofs::Lacking::in_rules))]
 fn is_in(comps: &[Comp], comp: Comp) -> bool
-    ensures { result ≡ spec_is_in comp.0 (map (λ c. c.0) comps.now) }
+    ensures { result ≡ list_any (λ c. comp.0 == c.0) comps.now }
 {
-    for other in comps {
-        if other.0 == comp.0 {
-            return true;
-        }
-    }
-    false
+    comps.iter().any(|other| comp.0 == other.0)
 }
 
 // Whether the run can name the component.
+#[tactic(auto, using(crate::proofs::Lacking::is_in_any))]
 fn can_name(course: &Course, run: Run, comp: Comp) -> bool
     requires { run.0 < course.now.behaviours }
     ensures { result ≡ spec_can_name (past_of course.now) run.0 comp.0 }
 {
     let known = course.known(run);
-    let is_own = match known.comp() {
-        Some(own) => own.0 == comp.0,
-        None => false,
-    };
+    let is_own = known.comp().is_some_and(|own| own.0 == comp.0);
     comp.0 == 0 || is_own || is_in(known.bound(), comp)
 }
 

@@ -88,6 +88,6 @@ fn entries_are_told_apart(rt: HostRuntime) {
 
 // What the documents say of the memory of a report rests on this.
 #[test]
-fn an_entry_takes_72_bytes(rt: HostRuntime) {
-    is(&rt, "size_of::<Entry>()", size_of::<Entry>(), 72);
+fn an_entry_takes_48_bytes(rt: HostRuntime) {
+    is(&rt, "size_of::<Entry>()", size_of::<Entry>(), 48);
 }

@@ -1,20 +1,20 @@
 -- What comes of a text, and of an input.
-use Rattle.std.{proofs.Common.{ℕ, All, Bool, false, true, ◌&&◌, ◌≡◌, ◌∙◌, List, Option, IfOk, IfSome, Result, Ok, Err, inl, inr, refl, subst, sym}, specs.{Prelude.{◌≢◌, ◌⊎◌, MatchBool, MatchResult}, Global.Vec, Io.KnownBytes.Keeps}}
+use Rattle.std.{proofs.Common.{ℕ, All, Bool, false, true, ◌&&◌, not, ◌≡◌, ◌∙◌, List, length, Option, Some, None, IfOk, IfSome, Result, Ok, Err, arith, inl, inr, refl, subst, sym}, specs.{Prelude.{◌≢◌, ◌⊎◌, IsErrAnd, MatchBool, MatchResult}, Global.Vec, Io.KnownBytes.Keeps}}
 use Rattle.tc_text.{specs.Prelude.{Line, TellsAmong}, proofs.Lemmas.Among.among_some}
 use Rattle.tc_answer.specs.{declared.{fault.RunFault.RunFault, outcome.Outcome.Outcome, reply.Answer.Answer}, Prelude.{GivesAnswer, number_of, run_fault_line, IsUnread, IsPrintedRefusal, RefusesChoice, Streams}, Inside.AreReadyAs}
 use Rattle.tc_exec.specs.declared.test_case.Case.{Case}
 use Rattle.tc_step.specs.Prelude.{ScriptView}
 use Rattle.tc_command.specs.declared.task.{Choice.Choice, RunOptions.RunOptions, Task.Task}
-use Rattle.tc_judge.specs.{Prelude.{AreToRun, IsChecked, IsMadeOfInput, IsSilent, RefusesAgainst, RefusesBlocks, IsLegalBlock, IsUnreadIn, are_named, counting, history_limit}, Inside.{block_name, is_picked}}
-use Rattle.tc_program.specs.{Explained.{explains, is_of_text, part_of}, Inside.{IsAsked, IsMadeInParts, IsToldOf, WritesTo, notes_of}, Limits.{has_blocks, limit_of}, Made.{Does, IsMade}, Program.{IsCarriedOut, IsDone, IsDoneBy}}
+use Rattle.tc_judge.specs.{Prelude.{AreToRun, IsChecked, IsMadeOfInput, IsSilent, RefusesAgainst, RefusesBlocks, IsLegalBlock, IsUnreadIn, are_named, counting, history_limit, is_of_judged}, Inside.{block_name, is_picked}}
+use Rattle.tc_program.specs.{Explained.{explains, is_of_text, part_of}, Inside.{IsAsked, IsMadeInParts, IsToldOf, WritesTo, is_whole, notes_of}, Limits.{has_blocks, limit_of}, Made.{Does, IsMade}, Program.{IsCarriedOut, IsDone, IsDoneBy}}
 use Rattle.tc_blocks.specs.{Prelude.{AreEvidence, IsInLimit, IsReadIn}, declared.{block.Block.Block, limit.Limit.Limit}}
 
 -- what comes of an input that is read is what comes of its text
 pub read_does : (task : Task) (input before after : Option (List ℕ)) (text : List ℕ) (r : Result ℕ RunFault) → IsInLimit (limit_of task) text → IfSome input (λ given. text ≡ given)
     → WritesTo task text before after r → Does task input before after r
-read_does task input before after text (Ok status) fits all does = (text, fits, all, does)
-read_does task input before after text (Err RunFault.Write) fits all does = (text, fits, all, does)
-read_does task input before after text (Err fault) fits all does = (inr (text, fits, all, does.0), does.1)
+read_does task input before after text (Ok status) fits all does = (does.0, inl (text, fits, all, does.1), does.2, does.3)
+read_does task input before after text (Err RunFault.Write) fits all does = (does.0, inl (text, fits, all, does.1), does.2)
+read_does task input before after text (Err fault) fits all does = (inl (text, fits, all, does.0), does.1)
 
 -- the same of a text that is lent
 pub lent_does : (task : Task) (input before after : Option (List ℕ)) (text lent : List ℕ) (r : Result ℕ RunFault) → lent ≡ text → IsInLimit (limit_of task) text
@@ -22,9 +22,15 @@ pub lent_does : (task : Task) (input before after : Option (List ℕ)) (text len
 lent_does task input before after text lent r same fits all does = read_does task input before after text r fits all (subst (λ t. WritesTo task t before after r) same does)
 
 -- a task that explains a fault keeps its text
-pub and_right : (a b : Bool) → (a && b) ≡ true → b ≡ true
-and_right true b is = is
-and_right false b is = absurd cc
+kept_if : (asked long : Bool) → (asked && not long) ≡ true → is_whole (history_limit long) ≡ true
+kept_if true false is = refl
+kept_if _ _ is = absurd cc
+
+pub kept_whole : (task : Task) → explains task ≡ true → is_whole (limit_of task) ≡ true
+kept_whole (Task.Check choice asked) is = kept_if asked choice.long is
+kept_whole (Task.Report form choice asked) is = kept_if asked (choice.long && is_of_judged form) is
+kept_whole (Task.Model choice asked) is = kept_if asked choice.long is
+kept_whole _ is = refl
 
 pub and_true : (a b : Bool) → b ≡ true → (a && b) ≡ a
 and_true true b is = is
@@ -32,7 +38,8 @@ and_true false b is = refl
 
 -- why there is none
 pub unread_whole : (most : ℕ) (input : Option (List ℕ)) (fault : RunFault) → IsUnread most input fault → IsUnreadIn (Limit.Whole most) input fault
-unread_whole most input RunFault.TooLong is = is
+unread_whole most None RunFault.TooLong is = tt
+unread_whole most (Some given) RunFault.TooLong is = λ within. omega (arith, is, within)
 unread_whole most input fault is = is
 
 -- what the program does with a task by its whole input: it was read, and the text is done; or it was not, nothing was
@@ -55,7 +62,7 @@ parts_given task input made a s outcome parts is gives = carried_out task input 
   where
     by : IsMadeOfInput (limit_of task) input (IsMade task) made → IsDoneWhole task input s outcome
     by (inl read) = inl (read.0, read.1, read.2, IsDoneBy.made a (subst (IsMade task read.0) is read.3) gives)
-    by (inr unread) = let no : Ok a ≡ Err unread.0 = sym is ∙ unread.1 in absurd cc
+    by (inr unread) = absurd (subst (λ r. IsErrAnd r (IsUnreadIn (limit_of task) input)) is unread)
 
 -- or there is none, and no fault is explained
 pub parts_refused : (task : Task) (input : Option (List ℕ)) (made : Result Answer RunFault) (fault : RunFault) (s : Streams) (outcome : Outcome) → IsMadeInParts task input made
@@ -68,7 +75,7 @@ parts_refused task input made fault s outcome parts is keeps refusal = carried_o
     by : IsMadeOfInput (limit_of task) input (IsMade task) made → IsDoneWhole task input s outcome
     by (inl read) =
         inl (read.0, read.1, read.2, IsDoneBy.refused fault (subst (IsMade task read.0) is read.3) keeps (run_fault_line fault, told read.0, refusal))
-    by (inr unread) = let same : fault ≡ unread.0 = cc in inr (fault, subst (IsUnreadIn (limit_of task) input) (sym same) unread.2, keeps, refusal)
+    by (inr unread) = inr (fault, subst (λ r. IsErrAnd r (IsUnreadIn (limit_of task) input)) is unread, keeps, refusal)
 
 -- what is made of a text that is checked, by the choice
 abbrev MadeBy : List ℕ → Result Answer RunFault → Bool → List (List ℕ) → Bool → Type 0
@@ -89,24 +96,21 @@ made_for some choice explains input made only failed last long (inl read) =
       subst (λ l. MadeBy read.0 made l choice.only.items choice.failed) last
           (subst (λ f. MadeBy read.0 made some.last choice.only.items f) failed (subst (λ o. MadeBy read.0 made some.last o some.failed) only read.3)),
     )
-made_for some choice explains input made only failed last long (inr unread) = inr (subst (λ l. (fault : RunFault) × (made ≡ Err fault) × IsUnreadIn (history_limit l) input fault) long unread)
+made_for some choice explains input made only failed last long (inr unread) = inr (subst (λ l. IsErrAnd made (IsUnreadIn (history_limit l) input)) long unread)
 
 -- what is made of an input that is checked was written
 pub checked_does : (choice : Choice) (explains : Bool) (input before after : Option (List ℕ)) (a : Answer) (r : Result ℕ RunFault)
     → IsMadeOfInput (history_limit choice.long) input (IsMade (Task.Check choice explains)) (Ok a)
     → ((text : List ℕ) → IsMade (Task.Check choice explains) text (Ok a) → WritesTo (Task.Check choice explains) text before after r) → Does (Task.Check choice explains) input before after r
 checked_does choice explains input before after a r (inl read) writes = read_does (Task.Check choice explains) input before after read.0 r read.1 read.2 (writes read.0 read.3)
-checked_does choice explains input before after a r (inr unread) writes = let no : Ok a ≡ Err unread.0 = unread.1 in absurd cc
+checked_does choice explains input before after a r (inr unread) writes = absurd unread
 
 -- nothing is made of an input that is checked: it was not read, or is refused
 pub unchecked : (choice : Choice) (explains : Bool) (input before after : Option (List ℕ)) (fault : RunFault) → IsMadeOfInput (history_limit choice.long) input (IsMade (Task.Check choice explains)) (Err fault)
     → Keeps before after → Does (Task.Check choice explains) input before after (Err fault)
 unchecked choice explains input before after RunFault.Write (inl read) keeps = absurd read.3
-unchecked choice explains input before after RunFault.Write (inr unread) keeps =
-    let same : RunFault.Write ≡ unread.0 = cc in absurd (subst (IsUnreadIn (history_limit choice.long) input) (sym same) unread.2)
-unchecked choice explains input before after fault (inl read) keeps = (inr read, keeps)
-unchecked choice explains input before after fault (inr unread) keeps =
-    let same : fault ≡ unread.0 = cc in (inl (subst (IsUnreadIn (history_limit choice.long) input) (sym same) unread.2), keeps)
+unchecked choice explains input before after RunFault.Write (inr unread) keeps = absurd unread
+unchecked choice explains input before after fault made keeps = (made, keeps)
 
 -- a task that asks to run test cases is carried out by what comes of them
 pub asked_done : (task : Task) (input : Option (List ℕ)) (o : RunOptions) (ready : List (Case ScriptView)) (s : Streams) (outcome : Outcome) → IsAsked task input o ready

@@ -1,8 +1,8 @@
 -- Test cases of a program's own, as a task asks for them.
-use Rattle.std.{proofs.Common.{ℕ, ◌≡◌, ◌++◌, ◌∷◌, [], All, Bool, false, true, List, Option, ap₂, IfOk, Result, Ok, Err, inl, inr, refl, subst, sym}, specs.{Prelude.{◌≢◌, codes}, Global.Vec, Io.KnownBytes.Keeps, List.AllZip}}
+use Rattle.std.{proofs.Common.{ℕ, ◌≡◌, ◌⊎◌, ◌++◌, ◌∷◌, [], All, Bool, false, true, List, Option, ap₂, IfOk, Result, Ok, Err, inl, inr, refl, subst, sym}, specs.{Prelude.{◌≢◌, codes}, Global.Vec, Io.KnownBytes.Keeps, List.AllZip}}
 use Rattle.tc_book.specs.Prelude.{PassState}
 use Rattle.tc_campaign.specs.Prelude.{AreBack, IsCalled, HasNames, outline_of}
-use Rattle.tc_answer.{specs.{Prelude.{CaseView, case_name, chosen, have_names, AreChosenOf, run_fault_line, said, IsPrintedRefusal, Streams}, Inside.{IsCaseOf, RefusesNames, script_name}, declared.{fault.RunFault.RunFault, outcome.Outcome.Outcome}}, proofs.Lemmas.Chosen.all_chosen}
+use Rattle.tc_answer.{specs.{Prelude.{CaseView, case_name, chosen, have_names, AreChosenOf, run_fault_line, said, IsPrintedRefusal, Streams}, Inside.{IsCaseOf, script_name}, declared.{fault.RunFault.RunFault, outcome.Outcome.Outcome}}, proofs.Lemmas.Chosen.all_chosen}
 use Rattle.tc_exec.specs.declared.{job.Back.Back, test_case.Case.Case}
 use Rattle.tc_command.specs.{Prelude.{IsCasesReading, IsReading}, declared.{read.Refused.Refused, task.{Choice.Choice, RunOptions.RunOptions, Task.Task}}}
 use Rattle.tc_report.specs.declared.fault.OutFault.{OutFault}
@@ -43,12 +43,12 @@ not_begun words task input o ready s Unread Unwritten outcome reads asked keeps 
 
 module _ (Reads : Result Task Refused → Type 0) (Does : Task → Type 0) (s : Streams) (Unwritten : Type 0) (outcome : Outcome) where
   -- arguments that are a task are answered if it is done
-  pub task_answered : (task : Task) → Reads (Ok task) → Does task → IsAnsweredBy Reads Does s (Unit {0}) Unwritten outcome
-  task_answered task reads does = record { answer = Ok task; reading = reads; task = does; no_task = tt; unread = tt }
+  pub task_answered : {Unread : Type 0} (task : Task) → Reads (Ok task) → Does task → IsAnsweredBy Reads Does s Unread Unwritten outcome
+  task_answered task reads does = record { answer = Ok task; reading = reads; answered = does }
 
   -- and those that are none, if that is said
   pub refusal_answered : (why : Refused) → Reads (Err why) → IsRefused why s Unwritten outcome → IsAnsweredBy Reads Does s (Unit {0}) Unwritten outcome
-  refusal_answered why reads refused = record { answer = Err why; reading = reads; task = tt; no_task = refused; unread = tt }
+  refusal_answered why reads refused = record { answer = Err why; reading = reads; answered = (refused, tt) }
 
 module _ {B E : Type 0} (made : Result (Vec (Case B)) E) where
   -- the chosen ones of test cases that were made are chosen of these
@@ -57,11 +57,10 @@ module _ {B E : Type 0} (made : Result (Vec (Case B)) E) where
   chosen_made v choice ks is have are = record { all = v.items; spelled = subst (λ r. WereMade r v.items) (sym is) refl; named = have; are = are }
 
   -- a choice that is refused of these is refused
-  pub unchosen_made : (v : Vec (Case B)) (choice : Choice) (fault : RunFault) → made ≡ Ok v → RefusesNames (have_names case_name choice.only.items v.items) fault
+  pub unchosen_made : (v : Vec (Case B)) (choice : Choice) (fault : RunFault) → made ≡ Ok v → (fault ≡ RunFault.NoMemory) ⊎ ((fault ≡ RunFault.Only) × (have_names case_name choice.only.items v.items ≡ false))
       → RefusesCases (WereMade made) choice fault
-  unchosen_made v choice RunFault.Only is have = (v.items, subst (λ r. WereMade r v.items) (sym is) refl, have)
-  unchosen_made v choice RunFault.NoMemory is have = tt
-  unchosen_made v choice fault is have = absurd have
+  unchosen_made v choice fault is (inl why) = subst (RefusesCases (WereMade made) choice) (sym why) tt
+  unchosen_made v choice fault is (inr why) = subst (RefusesCases (WereMade made) choice) (sym why.0) (v.items, subst (λ r. WereMade r v.items) (sym is) refl, why.1)
 
 -- chosen ones of test cases with names of their behaviours have such names
 pub named_still : {B E : Type 0} (made : Result (Vec (Case B)) E) (choice : Choice) (ks : List (Case B)) → IfOk made (λ v. All HasNames v.items)

@@ -41,10 +41,9 @@ whole_form ReportForm.Summary text chosen ss out other is = is
 module _ (kind : Kind) (r : Results) (ran : WereRun kind r) where
   checked_so : (a : Answer) → IsChecked false each (blocks_text kind r) a.out a.status → a.told ≡ [] → a ≡ answer_of (flat_map legal_case r.finished) [] 0
   checked_so a is told =
-      let two = said_of_written kind r a.out is.legal ran (is.checks.holds (blocks_of kind 1 r.finished) (evidence_of kind r ran)) in
-      let status_is : a.status ≡ 0 = is.status_is ∙ ap (λ t. if t then 0 else 3) two.1 in
+      let two = said_of_written kind r a.out a.status ran (is.holds (blocks_of kind 1 r.finished) (evidence_of kind r ran)) in
       let lines = flat_map legal_case r.finished in
-      ap (λ x. answer_of x a.told a.status) two.0 ∙ ap (λ x. answer_of lines x a.status) told ∙ ap (λ x. answer_of lines [] x) status_is
+      ap (λ x. answer_of x a.told a.status) two.0 ∙ ap (λ x. answer_of lines x a.status) told ∙ ap (λ x. answer_of lines [] x) two.1
 
   -- the report of what a run wrote: none of it is illegal
   reported_so : (form : ReportForm) (a : Answer) → form ≢ ReportForm.Text → IsReport form (blocks_text kind r) (blocks_of kind 1 r.finished) (filter each (blocks_of kind 1 r.finished)) [] [] a

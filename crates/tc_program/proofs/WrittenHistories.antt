@@ -63,10 +63,10 @@ same_lines kind line (f ∷ fs) =
     ∙ ap (λ l. legal_case f ++ l) (same_lines kind (after kind line f) fs)
 
 -- what is said of these blocks
-pub said_of_written : (kind : Kind) (r : Results) (out : List ℕ) (legal : Bool) → WereRun kind r → Checks each (blocks_of kind 1 r.finished) out legal
-    → (out ≡ flat_map legal_case r.finished) × (legal ≡ true)
-said_of_written kind r out legal ran checks =
-    let two = only_legal (blocks_of kind 1 r.finished) out legal (are_right kind 1 r.finished ran.each) checks in
+pub said_of_written : (kind : Kind) (r : Results) (out : List ℕ) (status : ℕ) → WereRun kind r → Checks each (blocks_of kind 1 r.finished) out status
+    → (out ≡ flat_map legal_case r.finished) × (status ≡ 0)
+said_of_written kind r out status ran checks =
+    let two = only_legal (blocks_of kind 1 r.finished) out status (are_right kind 1 r.finished ran.each) checks in
     (two.0 ∙ same_lines kind 1 r.finished, two.1)
 
 -- ---- what the types give

@@ -1,5 +1,5 @@
 -- What the program does with its arguments.
-use Rattle.std.specs.Prelude.{ℕ, ◌≡◌, ◌≢◌, ◌⊎◌, Bool, List, Option, Result, IfOk, IfErr, OnErr, codes}
+use Rattle.std.specs.Prelude.{ℕ, ◌≡◌, ◌≢◌, ◌⊎◌, Bool, List, Option, Result, MatchResult, codes}
 use Rattle.std.specs.{Io.KnownBytes.Appends, Io.KnownBytes.Keeps, declared.io.ErrorKind.ErrorKind as IoKind}
 use Rattle.std.specs.declared.io.ErrorKind.TheVariants as IoKinds
 use Rattle.clap.specs.{Values.kind_of, declared.error.kind.ErrorKind.ErrorKind}
@@ -25,8 +25,7 @@ IsUnreadInput kind untold told outcome = (outcome.status ≡ 3) × IsTold untold
 -- what comes of arguments that clap takes for no task, by the kind of its error: help, the version or a refusal was
 -- shown, or that memory ran out. For refused arguments, and without memory, nothing was written.
 pub record IsNoTask (kind : ErrorKind) (streams : Streams) (Unwritten : Type 0) (outcome : Outcome) : Type 0 where
-  pub help : kind ≡ Kinds.DisplayHelp → IsHelped streams outcome
-  pub version : kind ≡ Kinds.DisplayVersion → IsHelped streams outcome
+  pub shown : (kind ≡ Kinds.DisplayHelp) ⊎ (kind ≡ Kinds.DisplayVersion) → IsHelped streams outcome
   pub mistake : (kind ≢ Kinds.DisplayHelp) × (kind ≢ Kinds.DisplayVersion) × (kind ≢ Kinds.OutOfMemory) → ((text : List ℕ) × IsPrintedRefusal streams.untold streams.told text outcome) × Unwritten
   pub memory : kind ≡ Kinds.OutOfMemory → IsPrintedRefusal streams.untold streams.told (run_fault_line RunFault.NoMemory) outcome × Unwritten
 
@@ -40,9 +39,7 @@ IsRefused (Refused.Word fault) streams Unwritten outcome = IsPrintedRefusal stre
 pub record IsAnsweredBy (Reads : Result Task Refused → Type 0) (Does : Task → Type 0) (streams : Streams) (Unread Unwritten : Type 0) (outcome : Outcome) : Type 0 where
   pub answer : Result Task Refused
   pub reading : Reads answer
-  pub task : IfOk answer Does
-  pub no_task : IfErr answer (λ why. IsRefused why streams Unwritten outcome)
-  pub unread : OnErr answer Unread
+  pub answered : MatchResult answer Does (λ why. IsRefused why streams Unwritten outcome × Unread)
 
 -- the same by the rules of the program's command line, and what it does with a task
 abbrev pub AnswersWords : Bool → List (List ℕ) → Option (List ℕ) → Streams → Type 0 → Type 0 → Outcome → Type 0

@@ -1,26 +1,23 @@
 -- What is printed about a text that is refused.
-use Rattle.std.specs.{Prelude.{ℕ, Bool, MatchBool, true, false, ◌≡◌, ◌&&◌, Option, List, []}, Option.option_map_or}
+use Rattle.std.specs.{Prelude.{ℕ, Bool, MatchBool, true, false, ◌≡◌, ◌&&◌, not, Option, List, []}, Option.option_map_or}
 use Rattle.tc_explain.specs.Prelude.{explanation}
 use Rattle.tc_text.specs.Prelude.{TellsAmong}
 use Rattle.tc_command.specs.declared.task.Task.{Task}
+use Rattle.tc_judge.specs.Prelude.{is_of_judged}
 use Rattle.tc_answer.specs.{declared.{fault.RunFault.RunFault, outcome.Outcome.Outcome}, Prelude.{blocks_part, script_part, run_fault_line, IsPrintedRefusal, number_of}}
-use Rattle.tc_program.specs.Limits.{has_blocks, is_whole, limit_of}
+use Rattle.tc_program.specs.Limits.{has_blocks}
 
--- the task is asked to explain a fault of its text
-abbrev pub asks_why : Task → Bool
-asks_why (Task.Replay asked) = asked
-asks_why (Task.Check choice asked) = asked
-asks_why (Task.Compare form choice asked) = asked
-asks_why (Task.Report form choice asked) = asked
-asks_why (Task.Model choice asked) = asked
-asks_why (Task.List choice asked) = asked
-asks_why (Task.Run o) = o.explains
-asks_why (Task.Explore o) = o.explains
-asks_why Task.Serve = false
-
--- the task explains a fault of its text, which it has then
+-- the task is asked to explain a fault of its text, and has it whole, since its histories may not be long
 abbrev pub explains : Task → Bool
-explains task = asks_why task && is_whole (limit_of task)
+explains (Task.Replay asked) = asked
+explains (Task.Check choice asked) = asked && not choice.long
+explains (Task.Compare form choice asked) = asked
+explains (Task.Report form choice asked) = asked && not (choice.long && is_of_judged form)
+explains (Task.Model choice asked) = asked && not choice.long
+explains (Task.List choice asked) = asked
+explains (Task.Run o) = o.explains
+explains (Task.Explore o) = o.explains
+explains Task.Serve = false
 
 -- the part of a text that the lines of this fault are counted in: all of it, or, of a script with blocks after it, the script
 -- or the blocks

@@ -23,13 +23,6 @@ pub record TellsLocals (states : ℕ) (scripts : List ScriptView) (before after 
   pub undecided : (l : Limit) → locals.ending ≡ Ending.Undecided l → 1 ≤ length scripts → IsAtLimit scripts states locals.states l
   pub told : after ≡ before ++ locals_text locals
 
--- what is printed after the line of a test case with these names of behaviours: its local verdicts, and its details, if they
--- are asked for
-abbrev pub TellsAfter : ExploreOptions → List (List ℕ) → List ScriptView → Explored → List ℕ → Type 0
-TellsAfter o names scripts e text =
-    (middle : List ℕ) × MatchBool o.locals (TellsLocals o.states scripts [] middle) (middle ≡ [])
-    × (text ≡ middle ++ (if o.details then of_details names scripts e else []))
-
 -- A test case was explored, and each verdict that was found has one witness: a complete course of its scripts, which is legal.
 -- If the search says that it is complete, the verdict of each complete course of its scripts was found. If it says that it is
 -- undecided, it looked at as many states as it may, and found one verdict at least. Some course of each run carries out as many
@@ -47,7 +40,9 @@ pub record IsExplored (o : ExploreOptions) (c : CaseView) (e : ExploredCase) : T
   pub most : e.explored.states ≤ most_states (scripts_of c.1) o.states
   pub undecided : (l : Limit) → e.explored.ending ≡ Ending.Undecided l → 1 ≤ length (scripts_of c.1) → IsAtLimit (scripts_of c.1) o.states e.explored.states l
   pub told : (l : Limit) → e.explored.ending ≡ Ending.Undecided l → 1 ≤ length (scripts_of c.1) → 1 ≤ length e.explored.found
-  pub details_are : TellsAfter o e.names (scripts_of c.1) e.explored e.details
+  -- what is printed after its line: its local verdicts, and its details, if they are asked for
+  pub details_are : (middle : List ℕ) × MatchBool o.locals (TellsLocals o.states (scripts_of c.1) [] middle) (middle ≡ [])
+      × (e.details ≡ middle ++ (if o.details then of_details e.names (scripts_of c.1) e.explored else []))
 
 -- the witnesses of a test case as blocks of this kind, with these names of behaviours
 abbrev pub witness_blocks : Kind → List (List ℕ) → ExploredCase → List ℕ

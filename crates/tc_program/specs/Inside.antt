@@ -1,11 +1,13 @@
 -- What the functions inside of the program say, which no public clause names.
-use Rattle.std.specs.{Prelude.{ℕ, ◌≡◌, ◌≢◌, ◌&&◌, All, Bool, MatchBool, false, true, filter, Option, Result, Ok, Err, MatchResult, List, [], ◌∷◌, ◌++◌, length, map, reverse}, Io.KnownBytes.{Appends, Keeps}, List.flat_map, Option.option_map_or}
+use Rattle.std.specs.{Prelude.{ℕ, ◌≡◌, ◌≢◌, ◌&&◌, All, Bool, MatchBool, false, true, filter, if◌then◌else◌, Option, Result, Ok, Err, MatchResult, List, [], ◌∷◌, ◌++◌, length, map, reverse}, Io.KnownBytes.{Appends, Keeps}, List.flat_map, Option.option_map_or}
 use Rattle.tc_explain.specs.Prelude.{explanation}
 use Rattle.tc_rules.specs.Prelude.{IsName, Entry, StandsFor, answer, IsOneHistory, name_of}
 use Rattle.tc_stream.specs.Prelude.{AppendsPrefix}
 use Rattle.tc_text.specs.Prelude.{Move, Line, TellsAmong, reply_text}
 use Rattle.tc_step.specs.Prelude.{ScriptView}
-use Rattle.tc_blocks.specs.{Prelude.{AreEntries, AreLines, IsHeader, IsReadIn}, declared.{block.Block.Block, header.Kind.Kind}}
+use Rattle.tc_course.specs.declared.found.Explored.{Explored}
+use Rattle.tc_explored.specs.Prelude.{details as of_details}
+use Rattle.tc_blocks.specs.{Prelude.{AreEntries, AreLines, IsHeader, IsReadIn}, declared.{block.Block.Block, header.Kind.Kind, limit.Limit.Limit}}
 use Rattle.tc_report.specs.{Inside.{case_lines, finished_header}, declared.results.{Finished.Finished, Results.Results}}
 use Rattle.tc_exec.specs.declared.test_case.Case.{Case}
 use Rattle.tc_answer.specs.{Prelude.{CaseView, number_of, run_fault_line}, Inside.{AreReadyAs, IsCaseOf}, declared.{fault.RunFault.RunFault, reply.Answer.Answer}}
@@ -13,6 +15,11 @@ use Rattle.tc_judge.specs.Prelude.{AreToRun, IsMadeOfInput, are_named, counting,
 use Rattle.tc_command.specs.declared.{task.{Choice.Choice, ExploreOptions.ExploreOptions, RunOptions.RunOptions, Task.Task}}
 use Rattle.tc_run.specs.Prelude.{LeavesUnwritten}
 use Rattle.tc_program.specs.{Explained.{explains, is_of_text, part_of}, Explore.{IsExplored, TellsLocals}, Limits.{has_blocks, limit_of}, Made.IsMade, Model.AnswersBlocks, declared.{explore.ExploredCase.ExploredCase, replaying.Replaying.Replaying}}
+
+-- the text is kept whole
+abbrev pub is_whole : Limit → Bool
+is_whole (Limit.Whole most) = true
+is_whole (Limit.Blocks most) = false
 
 -- the caller, and the call
 abbrev pub move_of : Entry → Move
@@ -73,6 +80,11 @@ IsExploredOf o k e = (c : CaseView) → IsCaseOf c k → IsExplored o c e
 -- the lines of local verdicts of these scripts, if they are asked for
 abbrev pub TellsLocalsIf : Bool → ℕ → List ScriptView → List ℕ → List ℕ → Type 0
 TellsLocalsIf asked states scripts before after = MatchBool asked (TellsLocals states scripts before after) (after ≡ before)
+
+-- what is printed after the line of a test case with these names of behaviours: its local verdicts, and its details, if they are asked for
+abbrev pub TellsAfter : ExploreOptions → List (List ℕ) → List ScriptView → Explored → List ℕ → Type 0
+TellsAfter o names scripts e text =
+    (middle : List ℕ) × TellsLocalsIf o.locals o.states scripts [] middle × (text ≡ middle ++ (if o.details then of_details names scripts e else []))
 
 -- the line of a test case in a list
 abbrev pub case_line : {B : Type 0} → Case B → List ℕ

@@ -19,8 +19,3 @@ limit_of (Task.Check choice explains) = history_limit choice.long
 limit_of (Task.Model choice explains) = history_limit choice.long
 limit_of (Task.Report form choice explains) = history_limit (choice.long && is_of_judged form)
 limit_of task = Limit.Whole (if has_blocks task then HISTORY_LIMIT else SCRIPT_LIMIT)
-
--- the text is kept whole
-abbrev pub is_whole : Limit → Bool
-is_whole (Limit.Whole most) = true
-is_whole (Limit.Blocks most) = false

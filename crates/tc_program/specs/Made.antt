@@ -1,11 +1,10 @@
 -- What a task makes of its text, and what a call over a reader and a writer returns.
-use Rattle.std.specs.{Prelude.{ℕ, ◌≡◌, ◌⊎◌, All, List, [], ◌∷◌, ◌++◌, MatchResult, Option, Some, None, Result, Ok, Err}, Io.KnownBytes.{Appends, Keeps}, List.flat_map}
+use Rattle.std.specs.{Prelude.{ℕ, ◌≡◌, All, List, [], ◌∷◌, ◌++◌, MatchResult, Option, Some, None, Result, Ok, Err}, Io.KnownBytes.{Appends, Keeps}, List.flat_map}
 use Rattle.tc_stream.specs.Prelude.{AppendsPrefix}
-use Rattle.tc_blocks.specs.Prelude.{IsReadIn}
 use Rattle.tc_text.specs.Prelude.{IsListFault}
 use Rattle.tc_command.specs.declared.task.Task.{Task}
 use Rattle.tc_answer.specs.{declared.{fault.RunFault.RunFault, reply.Answer.Answer}, Prelude.{RefusesText, CaseView}}
-use Rattle.tc_judge.specs.Prelude.{AreToRun, IsChecked, IsCheckedAgainst, IsLegalBlock, IsMadeOfBlocks, IsReported, IsReportedAgainst, IsSilent, IsUnreadIn, RefusesAgainst, RefusesRun, is_chosen}
+use Rattle.tc_judge.specs.Prelude.{AreToRun, IsChecked, IsCheckedAgainst, IsLegalBlock, IsMadeOfBlocks, IsMadeOfInput, IsReported, IsReportedAgainst, IsSilent, RefusesAgainst, RefusesRun, is_chosen}
 use Rattle.tc_program.specs.{Explore.Explores, Limits.limit_of, Model.IsModelled, Replay.Replays}
 
 -- the answer is the list of the test cases that would be run: a line with the name of each
@@ -30,7 +29,6 @@ IsMade Task.Serve text made = ⊥
 -- fault. Then the writer failed, and a prefix of that is written; or the input is refused, and nothing is.
 abbrev pub Does : Task → Option (List ℕ) → Option (List ℕ) → Option (List ℕ) → Result ℕ RunFault → Type 0
 Does task input before after (Ok status) =
-    IsReadIn (limit_of task) input (λ text. (a : Answer) × IsMade task text (Ok a) × Appends before after a.out × (status ≡ a.status))
-Does task input before after (Err RunFault.Write) = IsReadIn (limit_of task) input (λ text. (a : Answer) × IsMade task text (Ok a) × AppendsPrefix before after a.out)
-Does task input before after (Err fault) =
-    (IsUnreadIn (limit_of task) input fault ⊎ IsReadIn (limit_of task) input (λ text. IsMade task text (Err fault))) × Keeps before after
+    (a : Answer) × IsMadeOfInput (limit_of task) input (IsMade task) (Ok a) × Appends before after a.out × (status ≡ a.status)
+Does task input before after (Err RunFault.Write) = (a : Answer) × IsMadeOfInput (limit_of task) input (IsMade task) (Ok a) × AppendsPrefix before after a.out
+Does task input before after (Err fault) = IsMadeOfInput (limit_of task) input (IsMade task) (Err fault) × Keeps before after

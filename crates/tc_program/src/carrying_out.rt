@@ -4,7 +4,7 @@ ghost use Rattle.tc_command.specs.declared.task.Task.TheVariants.{Run, Serve};
 ghost use Rattle.tc_judge.specs.Prelude.{AreToRun};
 ghost use Rattle.tc_answer.specs.Inside.{AreReadyAs};
 ghost use Rattle.tc_answer.specs.Prelude.{held_streams};
-ghost use Rattle.tc_program.specs.{Inside.IsAsked, Inside.IsMadeInParts, Limits.is_whole, Limits.limit_of, Made.IsMade, Program.IsCarriedOut, Program.IsDone};
+ghost use Rattle.tc_program.specs.{Inside.IsAsked, Inside.IsMadeInParts, Inside.is_whole, Limits.limit_of, Made.IsMade, Program.IsCarriedOut, Program.IsDone};
 
 use crate::explained::{explains, refuse_text};
 use crate::explore::explore_text;

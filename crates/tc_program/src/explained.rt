@@ -3,9 +3,9 @@ ghost use Rattle.std.specs.Prelude.{◌≡◌, [], IfOk, OnOk};
 ghost use Rattle.tc_explain.specs.Prelude.{explanation};
 ghost use Rattle.tc_text.specs.Prelude.{TellsAmong};
 ghost use Rattle.tc_answer.specs.Prelude.{number_of};
-ghost use Rattle.tc_program.specs.{Explained.IsExplained, Explained.explains as spec_explains, Explained.is_of_text as spec_of_text, Explained.part_of as spec_part_of, Inside.IsToldOf, Inside.notes_of, Limits.has_blocks as spec_blocks, Explained.asks_why as spec_why};
+ghost use Rattle.tc_program.specs.{Explained.IsExplained, Explained.explains as spec_explains, Explained.is_of_text as spec_of_text, Explained.part_of as spec_part_of, Inside.IsToldOf, Inside.notes_of, Limits.has_blocks as spec_blocks};
 
-use crate::limits::{has_blocks, is_kept};
+use crate::limits::has_blocks;
 use crate::unknown::{append_unknown, names_of_blocks, names_of_script};
 use std::alloc::Global;
 use std::io::Write;
@@ -13,30 +13,28 @@ use tc_answer::{Outcome, RunFault, fault_line, refuse_with, split_script};
 use tc_command::{ExploreOptions, RunOptions, Task};
 use tc_entry::NoMemory;
 use tc_explain::{Refusal, explain};
+use tc_judge::is_of_judged;
 use tc_text::{TextFault, TextKind};
 
-// Whether the task is asked to explain a fault of its text.
-fn asks_why(task: &Task) -> bool
-    ensures { result ≡ spec_why task.now }
+/// Whether the task is asked to explain a fault of its text, and has it whole, since its histories may not be long.
+pub(crate) fn explains(task: &Task) -> bool
+    ensures { result ≡ spec_explains task.now }
 {
     match task {
-        Task::Replay { explains }
-        | Task::Check { explains, .. }
-        | Task::Compare { explains, .. }
-        | Task::Report { explains, .. }
-        | Task::Model { explains, .. }
-        | Task::List { explains, .. } => *explains,
+        Task::Replay { explains } | Task::Compare { explains, .. } | Task::List { explains, .. } =>
+            *explains,
+        Task::Check { choice, explains } | Task::Model { choice, explains } => {
+            *explains && !choice.long
+        }
+        Task::Report {
+            form,
+            choice,
+            explains,
+        } => *explains && !(choice.long && is_of_judged(form)),
         Task::Run(options) => options.explains,
         Task::Explore(options) => options.explains,
         Task::Serve => false,
     }
-}
-
-/// Whether the task explains a fault of its text, which it has then.
-pub(crate) fn explains(task: &Task) -> bool
-    ensures { result ≡ spec_explains task.now }
-{
-    asks_why(task) && is_kept(task)
 }
 
 // What the text of the task should be, which has a fault of this kind; a script has faults of another.

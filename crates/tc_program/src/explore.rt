@@ -6,7 +6,7 @@ ghost use Rattle.tc_course.specs.Prelude.{AreLegal};
 ghost use Rattle.tc_explored.specs.Prelude.{explored_status as status_in};
 ghost use Rattle.tc_judge.specs.Inside.{HasFewJobs};
 ghost use Rattle.tc_judge.specs.Prelude.{RefusesRun};
-ghost use Rattle.tc_program.specs.{Explore.Explores, Explore.TellsAfter, Explore.explored_text, Explore.witness_blocks, Inside.IsExploredOf, Inside.TellsLocalsIf};
+ghost use Rattle.tc_program.specs.{Explore.Explores, Explore.explored_text, Explore.witness_blocks, Inside.IsExploredOf, Inside.TellsAfter, Inside.TellsLocalsIf};
 
 use std::alloc::Global;
 use tc_answer::{Answer, RunFault};

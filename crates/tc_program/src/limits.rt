@@ -1,11 +1,10 @@
 //! How many bytes the input of a task may have.
 ghost use Rattle.std.specs.Prelude.{◌≡◌, true};
 ghost use Rattle.tc_blocks.specs.declared.limit.Limit.{Limit};
-ghost use Rattle.tc_program.specs.Limits.{has_blocks as spec_blocks, is_whole, limit_of};
+ghost use Rattle.tc_program.specs.{Inside.is_whole, Limits.has_blocks as spec_blocks, Limits.limit_of};
 
 use tc_answer::{HISTORY_LIMIT, SCRIPT_LIMIT};
 use tc_command::Task;
-use tc_judge::is_of_judged;
 
 /// Whether the text of the task has histories or evidence after a script.
 pub(crate) fn has_blocks(task: &Task) -> bool
@@ -17,17 +16,6 @@ pub(crate) fn has_blocks(task: &Task) -> bool
         Task::Run(options) => options.choice.failed,
         Task::Explore(options) => options.choice.failed,
         _ => false,
-    }
-}
-
-/// Whether the text of the task is kept whole: its histories may not be long.
-pub(crate) fn is_kept(task: &Task) -> bool
-    ensures { result ≡ is_whole (limit_of task.now) }
-{
-    match task {
-        Task::Check { choice, .. } | Task::Model { choice, .. } => !choice.long,
-        Task::Report { form, choice, .. } => !(choice.long && is_of_judged(form)),
-        _ => true,
     }
 }
 

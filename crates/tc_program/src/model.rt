@@ -1,16 +1,15 @@
 //! The subcommand `model`.
-ghost use Rattle.std.specs.Prelude.{◌≡◌, ◌<◌, IfOk, filter};
+ghost use Rattle.std.specs.Prelude.{◌≡◌, IfOk, filter};
 ghost use Rattle.tc_judge.specs.Prelude.{IsMadeOfInput, history_limit, is_chosen};
-ghost use Rattle.tc_blocks.specs.Prelude.{most_of};
 ghost use Rattle.tc_program.specs.{Inside.IsMadeOf, Model.AnswersBlocks, Model.IsModelled};
 
 use std::alloc::Global;
 use std::io::Read;
-use tc_answer::{Answer, HISTORY_LIMIT, REFUSED, RunFault, SCRIPT_LIMIT, of_input};
-use tc_blocks::{Block, Limit, read_evidence, read_evidence_from};
+use tc_answer::{Answer, REFUSED, RunFault, SCRIPT_LIMIT, of_input};
+use tc_blocks::{Block, read_evidence, read_evidence_from};
 use tc_command::Choice;
 use tc_entry::{NoMemory, Sequence};
-use tc_judge::{counted, is_picked, patterns_match};
+use tc_judge::{counted, is_picked, limit_of, patterns_match};
 use tc_model::{Models, models_of, notes_of};
 
 // The chosen blocks.
@@ -58,18 +57,6 @@ pub(crate) fn model_text(alloc: Global, choice: &Choice, text: &[u8]) -> Result<
     match read_evidence(alloc, text) {
         Ok(blocks) => model_blocks(alloc, choice, blocks),
         Err(fault) => Err(RunFault::from(fault)),
-    }
-}
-
-// How many bytes histories may have: all together, or, if they may be long, each block.
-fn limit_of(long: bool) -> Limit
-    ensures is { result ≡ history_limit long }
-    ensures most { most_of result < usize.MAX }
-{
-    if long {
-        Limit::Blocks(HISTORY_LIMIT)
-    } else {
-        Limit::Whole(HISTORY_LIMIT)
     }
 }
 

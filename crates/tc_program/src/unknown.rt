@@ -1,5 +1,5 @@
 //! Which pattern of `--only` matches no name.
-ghost use Rattle.std.specs.Prelude.{◌≡◌, [], IfOk, List, OnOk, map, not};
+ghost use Rattle.std.specs.Prelude.{◌≡◌, [], IfOk, List, OnOk, map};
 ghost use Rattle.std.specs.List.{list_any};
 ghost use Rattle.tc_rules.specs.Prelude.{matches};
 ghost use Rattle.tc_text.specs.Prelude.{TellsAmong};
@@ -48,13 +48,6 @@ fn is_known(pattern: &Pattern, names: &[Name]) -> bool
     names.iter().any(|name| pattern.matches(name))
 }
 
-// Whether the pattern matches none of these names.
-fn is_unknown(pattern: &Pattern, names: &[Name]) -> bool
-    ensures { result ≡ not (list_any (λ n. matches pattern.now n) names.now) }
-{
-    !is_known(pattern, names)
-}
-
 // Appends that no test case has the name, and the name that is the nearest.
 fn append_word(
     alloc: Global,
@@ -81,7 +74,7 @@ pub(crate) fn append_unknown(
 ) -> Result<(), NoMemory>
     ensures { OnOk result (TellsAmong [] out.old.items out.new.items) }
 {
-    match only.iter().find(|pattern| is_unknown(pattern, names)) {
+    match only.iter().find(|pattern| !is_known(pattern, names)) {
         Some(pattern) => append_word(alloc, out, pattern.bytes(), names),
         None => Ok(()),
     }

@@ -1,5 +1,5 @@
 -- If the references of a behaviour are bound, each place of its steps is.
-use Rattle.std.{proofs.{Common.{ℕ, suc, ◌≡◌, ◌∙◌, ◌+◌, ◌<◌, Bool, true, false, Option, Some, None, List, [], ◌∷◌, ◌++◌, length, map, All, nat_eq, refl, sym, ap, arith, rules, cond, ◌≤◌}, lemmas.List.{Elements.All-cons, Folds.list_any-append, length-append, length-map, map-append}}, specs.{Prelude.{◌||◌, not, if◌then◌else◌, is_some}, Cmp.Lexicographic.{bytes_decides, pointwise}, List.{list_any, position_or_len}, Option.{option_map, option_or}, Map.lookup}}
+use Rattle.std.{proofs.{Common.{ℕ, suc, ◌≡◌, ◌∙◌, ◌+◌, ◌<◌, Bool, true, false, Option, Some, None, List, [], ◌∷◌, ◌++◌, length, map, All, nat_eq, refl, sym, ap, arith, rules, cond, ◌≤◌}, lemmas.{Bool.Decides.nat_tests, List.{Elements.All-cons, Folds.list_any-append, length-append, length-map, map-append}}, Math.Bool.{or-false, or_assoc}}, specs.{Prelude.{◌==◌, ◌||◌, not, if◌then◌else◌, is_some}, Cmp.Lexicographic.{bytes_decides, pointwise}, List.{list_any, position_or_len}, Option.{option_map, option_or}, Map.lookup}}
 use Rattle.tc_step.specs.{declared.place.{GroupPlace.GroupPlace, Place.Place, TargetPlace.TargetPlace}, Prelude.{group_map, target_map, IsBound, AreBound, of_group, of_target}}
 use Rattle.tc_reader.specs.{Campaign.{place, step_of, steps}, FirstPass.at_next, Names.{add, all_of, among, has_twice, index_of, Word}, Scope.{Head, behaviours_before, bound, cases_before, heads_around, parameters_of}, SecondPass.{is_unbound, misnamed, name_fault}, Words.is_text, Inside.{add_head, head_fault, names_of}, declared.{kind.ScriptKind.ScriptKind, line.{Call.Call, Line.Line}}}
 use Rattle.indexmap.{specs.IndexMap.{IndexMap, insert_entry}, proofs.CallerLemmas.insert_entry-new}
@@ -59,12 +59,52 @@ no_first false kind others e = (refl, e)
 pub no_fault : (b : Bool) (kind : ScriptKind) → (if b then Some kind else None) ≡ None → b ≡ false
 no_fault b kind e = (no_first b kind None e).0
 
+-- ---- each name once
+
+pub all_last : (ns ms : List Word) (n : Word) → all_of ns (ms ++ n ∷ []) ≡ add n (all_of ns ms)
+all_last ns [] n = refl
+all_last ns (m ∷ ms) n = all_last (add m ns) ms n
+
+among_more : (n m : Word) (ns : List Word) → list_any (is_text n) (add m ns) ≡ (list_any (is_text n) ns || is_text n m)
+unfolding among is_text
+among_more n m ns = by (among m ns) refl
+  where
+    by : (b : Bool) → among m ns ≡ b → list_any (is_text n) (if b then ns else ns ++ m ∷ []) ≡ (list_any (is_text n) ns || is_text n m)
+    by false e = list_any-append (is_text n) ns (m ∷ []) ∙ ap (λ b. list_any (is_text n) ns || b) (or-false (is_text n m))
+    by true e = same (is_text n m) (bytes_decides n m).0
+      where
+        same : (b : Bool) → (b ≡ true → n ≡ m) → list_any (is_text n) ns ≡ (list_any (is_text n) ns || b)
+        same false f = sym (or-false (list_any (is_text n) ns))
+        same true f = rw (f refl, e) refl
+
+among_all : (n : Word) (ns ms : List Word) → among n (all_of ns ms) ≡ (among n ns || among n ms)
+unfolding among
+among_all n ns [] = sym (or-false (among n ns))
+among_all n ns (m ∷ ms) = among_all n (add m ns) ms ∙ ap (λ b. b || among n ms) (among_more n m ns) ∙ or_assoc (among n ns) (is_text n m) (among n ms)
+
+pub among_each : (n : Word) (ms : List Word) → among n (all_of [] ms) ≡ among n ms
+unfolding among
+among_each n ms = among_all n [] ms
+
+grows : (ns ms : List Word) → length ns ≤ length (all_of ns ms)
+grows ns [] = omega arith
+grows ns (m ∷ ms) = let next = grows (add m ns) ms in by (among m ns) next
+  where
+    by : (b : Bool) → length (if b then ns else ns ++ m ∷ []) ≤ length (all_of (add m ns) ms) → length ns ≤ length (all_of (add m ns) ms)
+    by true less = less
+    by false less = let long = length-append ns (m ∷ []) in omega (arith, less, long)
+
+pub none_of_each : (ms : List Word) → (length (all_of [] ms) == 0) ≡ (length ms == 0)
+unfolding among
+none_of_each [] = refl
+none_of_each (m ∷ ms) = let some : 1 ≤ length (all_of (m ∷ []) ms) = grows (m ∷ []) ms in grind (arith, nat_tests, some)
+
 -- ---- names that are bound once each
 
 pub add_new : (n : List ℕ) (ns : List (List ℕ)) → among n ns ≡ false → add n ns ≡ ns ++ n ∷ []
 add_new n ns e = rw e refl
 
-one_longer : (n : List ℕ) (ns : List (List ℕ)) → length (ns ++ n ∷ []) ≡ length ns + 1
+pub one_longer : (n : List ℕ) (ns : List (List ℕ)) → length (ns ++ n ∷ []) ≡ length ns + 1
 one_longer n ns = length-append ns (n ∷ [])
 
 -- none of these is among the others

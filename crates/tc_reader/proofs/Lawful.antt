@@ -2,7 +2,7 @@
 use Rattle.std.{proofs.{Common.{ℕ, suc, ◌≡◌, ◌∙◌, ◌+◌, ◌≤◌, Bool, true, false, Option, Some, None, List, [], ◌∷◌, ◌++◌, length, map, All, refl, sym, ap, arith, rules, append_assoc, cond, Result, Ok, Err}, lemmas.{Bool.Decides.nat_tests, List.{Elements.All-cons, Folds.list_any-append, append-nil, length-map, map-append}}}, specs.{Prelude.{◌&&◌, ◌||◌, not, if◌then◌else◌, ◌==◌, is_some, slice_get, IfSome}, List.{list_any, position_or_len}, Map.lookup, Option.{option_map, option_map_or}}}
 use Rattle.tc_entry.specs.declared.limits.TheConstants.{BEHAVIOURS}
 use Rattle.tc_step.specs.Prelude.{ScriptView}
-use Rattle.tc_reader.{specs.{Campaign.{IsCase, StartsOne, behaviours, cases, place, step_of, steps}, Inside.{signatures, AreCases, add_head, names_of, heads}, Names.{Word, add, all_of, among, has_twice, index_of}, Scope.{Head, behaviours_before, cases_before, heads_around, heads_with, parameters_of, with_bound}, SecondPass.misnamed, Words.is_text, declared.{kind.ScriptKind.ScriptKind, line.{Call.Call, Line.Line}}}, proofs.Binding.{add_new, differ, either, named_next, neither, no_fault, no_first, there}}
+use Rattle.tc_reader.{specs.{Campaign.{IsCase, StartsOne, behaviours, cases, place, step_of, steps}, Inside.{signatures, AreCases, add_head, names_of, heads}, Names.{Word, all_of, among, has_twice, index_of}, Scope.{Head, behaviours_before, cases_before, heads_around, heads_with, parameters_of, with_bound}, SecondPass.misnamed, Words.is_text, declared.{kind.ScriptKind.ScriptKind, line.{Call.Call, Line.Line}}}, proofs.Binding.{differ, either, named_next, neither, no_fault, no_first, there}}
 
 -- ---- a behaviour and its place
 
@@ -33,7 +33,7 @@ heads_are gs hs past (Line.Behaviour n ps ∷ rest) named same =
     let absent : is_some (parameters_of n hs) ≡ false = there n hs ∙ ap (among n) same ∙ new in
     let grown : add_head n (length ps) hs ≡ hs ++ (n, length ps) ∷ [] = rw absent refl in
     let names : names_of (hs ++ (n, length ps) ∷ []) ≡ behaviours_before (Line.Behaviour n ps ∷ past) =
-    rw new (map-append (λ h. h.0) hs ((n, length ps) ∷ []) ∙ ap (λ ns. ns ++ n ∷ []) same) in
+    map-append (λ h. h.0) hs ((n, length ps) ∷ []) ∙ ap (λ ns. ns ++ n ∷ []) same in
     ap (λ xs. heads_with xs rest) grown ∙ heads_are gs (hs ++ (n, length ps) ∷ []) (Line.Behaviour n ps ∷ past) rest two.1 names ∙ append_assoc hs ((n, length ps) ∷ []) (signatures (behaviours gs rest))
 heads_are gs hs past (l ∷ rest) named same = heads_are gs hs (l ∷ past) rest (named_next past l rest named).1 same
 
@@ -109,9 +109,8 @@ behaviour_names gs past (Line.TestCase n ∷ rest) named once = ap has_twice (ap
 behaviour_names gs past (Line.Behaviour n ps ∷ rest) named once =
     let two = named_next past (Line.Behaviour n ps) rest named in
     let new : among n (behaviours_before past) ≡ false = (none_used (among n (behaviours_before past)) _ _ two.0).0 in
-    let grown : add n (behaviours_before past) ≡ behaviours_before past ++ n ∷ [] = add_new n (behaviours_before past) new in
-    let next = behaviour_names gs (Line.Behaviour n ps ∷ past) rest two.1 (ap has_twice grown ∙ twice_after n (behaviours_before past) once new) in
-    ap has_twice (sym (append_assoc (behaviours_before past) (n ∷ []) (map (λ b. b.0) (behaviours gs rest))) ∙ ap (λ ns. ns ++ map (λ b. b.0) (behaviours gs rest)) (sym grown)) ∙ next
+    ap has_twice (sym (append_assoc (behaviours_before past) (n ∷ []) (map (λ b. b.0) (behaviours gs rest))))
+    ∙ behaviour_names gs (Line.Behaviour n ps ∷ past) rest two.1 (twice_after n (behaviours_before past) once new)
 behaviour_names gs past (l ∷ rest) named once = behaviour_names gs (l ∷ past) rest (named_next past l rest named).1 once
 
 pub case_names : (past rest : List Line) → misnamed past rest ≡ None → has_twice (cases_before past) ≡ false → has_twice (cases_before past ++ map (λ t. t.0) (cases rest)) ≡ false
@@ -119,9 +118,8 @@ case_names past [] named once = ap has_twice (append-nil (cases_before past)) �
 case_names past (Line.TestCase n ∷ rest) named once =
     let two = named_next past (Line.TestCase n) rest named in
     let new : among n (cases_before past) ≡ false = no_fault _ ScriptKind.Twice two.0 in
-    let grown : add n (cases_before past) ≡ cases_before past ++ n ∷ [] = add_new n (cases_before past) new in
-    let next = case_names (Line.TestCase n ∷ past) rest two.1 (ap has_twice grown ∙ twice_after n (cases_before past) once new) in
-    ap has_twice (sym (append_assoc (cases_before past) (n ∷ []) (map (λ t. t.0) (cases rest))) ∙ ap (λ ns. ns ++ map (λ t. t.0) (cases rest)) (sym grown)) ∙ next
+    ap has_twice (sym (append_assoc (cases_before past) (n ∷ []) (map (λ t. t.0) (cases rest))))
+    ∙ case_names (Line.TestCase n ∷ past) rest two.1 (twice_after n (cases_before past) once new)
 case_names past (l ∷ rest) named once = case_names (l ∷ past) rest (named_next past l rest named).1 once
 
 -- ---- test cases

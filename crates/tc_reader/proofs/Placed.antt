@@ -2,7 +2,7 @@
 use Rattle.std.{proofs.{Common.{ℕ, ◌≡◌, ◌≤◌, ◌<◌, ◌∙◌, ◌+◌, Bool, true, false, Ok, Err, List, [], ◌∷◌, ◌++◌, length, refl, sym, ap, arith, suc, cond, ltb, Some, None}, lemmas.{Bool.{Decides.nat_tests, le-ltb, lt-ltb, ltb-false, ltb-true}, List.{Sums.prefix_len-le-length, length-append, length-map}}}, specs.{Prelude.{is_some, not, if◌then◌else◌, ◌||◌}, List.{list_any, position, position_or_len}}}
 use Rattle.tc_entry.specs.declared.limits.TheConstants.{ARGUMENTS, BEHAVIOURS}
 use Rattle.tc_step.specs.declared.limits.TheConstants.{STEPS}
-use Rattle.tc_reader.specs.{FirstPass.{argument_count, behaviours_in, open_after, opened, passes_limit, placed, steps_in}, Inside.{names_of, place_in}, Names.{Word, add, all_of, among, index_of}, Scope.{Head, bound, with_bound}, Words.is_text, declared.{kind.ScriptKind.ScriptKind, line.{Call.Call, Line.Line}, counts.Open.Open}}
+use Rattle.tc_reader.specs.{FirstPass.{argument_count, open_after, opened, passes_limit, placed, steps_in}, Inside.{names_of, place_in}, Names.{Word, add, all_of, among, index_of}, Scope.{Head, behaviours_before, bound, with_bound}, Words.is_text, declared.{kind.ScriptKind.ScriptKind, line.{Call.Call, Line.Line}, counts.Open.Open}}
 
 -- each of the lines before
 abbrev pub AllPlaced : List Line → Type 0
@@ -43,14 +43,16 @@ within_limits past l is = by (is_some (open_after l (opened past))) (passes_limi
 pub few_given : (past : List Line) (call : Call) → passes_limit (Line.Step call) past ≡ false → (steps_in past < STEPS) × (argument_count call ≤ ARGUMENTS)
 few_given past call e = (grind (arith, nat_tests, e), grind (arith, nat_tests, e))
 
-pub few_more : (past : List Line) (n : List ℕ) (ps : List (List ℕ)) → passes_limit (Line.Behaviour n ps) past ≡ false → (behaviours_in past < BEHAVIOURS) × (length ps ≤ ARGUMENTS)
+pub few_more : (past : List Line) (n : List ℕ) (ps : List (List ℕ)) → passes_limit (Line.Behaviour n ps) past ≡ false → (length (behaviours_before past) < BEHAVIOURS) × (length ps ≤ ARGUMENTS)
 few_more past n ps e = (grind (arith, nat_tests, e), grind (arith, nat_tests, e))
 
-pub few_behaviours : (past : List Line) → AllPlaced past → behaviours_in past ≤ BEHAVIOURS
-unfolding behaviours_in
+pub few_behaviours : (past : List Line) → AllPlaced past → length (behaviours_before past) ≤ BEHAVIOURS
 few_behaviours [] are = omega arith
 few_behaviours (Line.TestCase n ∷ past) are = omega arith
-few_behaviours (Line.Behaviour n ps ∷ past) are = let low = (few_more past n ps (within_limits past (Line.Behaviour n ps) are.0)).0 in omega (arith, low)
+few_behaviours (Line.Behaviour n ps ∷ past) are =
+    let low = (few_more past n ps (within_limits past (Line.Behaviour n ps) are.0)).0 in
+    let long = length-append (behaviours_before past) (n ∷ []) in
+    omega (arith, low, long)
 few_behaviours (_ ∷ past) are = few_behaviours past are.1
 
 -- ---- how many names are bound

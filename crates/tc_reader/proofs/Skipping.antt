@@ -1,8 +1,8 @@
 -- Lines that need no look at their words, and what the first pass remembers of the lines before.
-use Rattle.std.{proofs.{Common.{ℕ, ◌≡◌, Bool, true, false, Ok, List, [], ◌∷◌, length, refl, ap, cond, arith, Result, Err, codes}, lemmas.Bool.Decides.nat_tests}, specs.{Prelude.{◌==◌, filter, nat_le, nat_lt, ◌||◌, if◌then◌else◌, Option, Some, None}, Cmp.Lexicographic.bytes_decides, List.{onto_first, slice_split}, Option.option_map_or}}
+use Rattle.std.{proofs.{Common.{ℕ, ◌≡◌, Bool, true, false, Ok, List, [], ◌∷◌, length, refl, sym, ap, cond, arith, Result, Err, codes}, lemmas.{Bool.Decides.nat_tests, List.length-append}}, specs.{Prelude.{◌==◌, filter, slice_index, nat_le, nat_lt, ◌||◌, if◌then◌else◌, Option, Some, None}, Cmp.Lexicographic.bytes_decides, List.{onto_first, slice_split}, Option.option_map_or}}
 use Rattle.tc_entry.specs.declared.limits.TheConstants.{ARGUMENTS, BEHAVIOURS}
 use Rattle.tc_step.specs.declared.limits.TheConstants.{STEPS}
-use Rattle.tc_reader.specs.{FirstPass.{argument_count, behaviours_in, cases_in, open_after, opened, passes_limit, placed, steps_in}, Inside.{counted, counted_with, counts_of, is_some_text, is_space}, Line.{are_printable, form, is_comment, line_of, line_with}, Text.words, Words.{is_text, keyword}, declared.{counts.{Counts.Counts, Open.Open}, kind.ScriptKind.ScriptKind, line.Line.Line}}
+use Rattle.tc_reader.specs.{FirstPass.{argument_count, open_after, opened, passes_limit, placed, steps_in}, Inside.{counted, counted_with, counts_of, is_some_text, is_space}, Line.{form, line_of, line_with}, Scope.{behaviours_before, cases_before}, Text.words, Words.{is_text, keyword}, declared.{counts.{Counts.Counts, Open.Open}, kind.ScriptKind.ScriptKind, line.Line.Line}}
 
 -- an empty line
 pub empty_line : (line : List ℕ) → (length line == 0) ≡ true → line_of line ≡ Ok Line.Skipped
@@ -11,7 +11,7 @@ empty_line [] is = refl
 empty_line (b ∷ bs) is = let none : length (b ∷ bs) ≡ 0 = grind (arith, nat_tests, is) in absurd (omega (arith, none))
 
 -- a comment
-pub comment_line : (line : List ℕ) → is_comment line ≡ true → line_of line ≡ Ok Line.Skipped
+pub comment_line : (line : List ℕ) → (slice_index line 0 == 35) ≡ true → line_of line ≡ Ok Line.Skipped
 unfolding line_of words
 comment_line [] is = absurd cc
 comment_line (b ∷ bs) is = let hash : b ≡ 35 = grind (arith, nat_tests, is) in rw hash (by (slice_split is_space bs))
@@ -25,7 +25,7 @@ comment_line (b ∷ bs) is = let hash : b ≡ 35 = grind (arith, nat_tests, is) 
         at false e = absurd cc
 
 the_end : line_of (codes "end") ≡ Ok Line.End
-unfolding line_of words is_text keyword are_printable form
+unfolding line_of words is_text keyword form
 the_end = refl
 
 -- the end of what is open
@@ -53,12 +53,13 @@ within past l s false is same = (is, same)
 -- a line that may be there, by its kind
 counts_at : (past : List Line) (l : Line) (o : Open) → opened (l ∷ past) ≡ o → (placed past l ≡ (if passes_limit l past then Err ScriptKind.TooMany else Ok l))
     → Agrees past l (counted_with l o (counts_of past))
-unfolding cases_in behaviours_in steps_in
-counts_at past (Line.TestCase n) o e is = within past (Line.TestCase n) _ (nat_le 1000 (cases_in past)) is (rw e (ap (λ k. made o k 0 (steps_in past)) (omega arith)))
+unfolding steps_in
+counts_at past (Line.TestCase n) o e is = within past (Line.TestCase n) _ (nat_le 1000 (length (cases_before past))) is (rw e (ap (λ k. made o k 0 (steps_in past)) (sym (length-append (cases_before past) (n ∷ [])))))
 counts_at past (Line.Behaviour n ps) o e is =
-    within past (Line.Behaviour n ps) _ (nat_le BEHAVIOURS (behaviours_in past) || nat_lt ARGUMENTS (length ps)) is (rw e (ap (λ k. made o (cases_in past) k 0) (omega arith)))
+    within past (Line.Behaviour n ps) _ (nat_le BEHAVIOURS (length (behaviours_before past)) || nat_lt ARGUMENTS (length ps)) is
+    (rw e (ap (λ k. made o (length (cases_before past)) k 0) (sym (length-append (behaviours_before past) (n ∷ [])))))
 counts_at past (Line.Step call) o e is =
-    within past (Line.Step call) _ (nat_le STEPS (steps_in past) || nat_lt ARGUMENTS (argument_count call)) is (rw e (ap (λ k. made o (cases_in past) (behaviours_in past) k) (omega arith)))
+    within past (Line.Step call) _ (nat_le STEPS (steps_in past) || nat_lt ARGUMENTS (argument_count call)) is (rw e (ap (λ k. made o (length (cases_before past)) (length (behaviours_before past)) k) (omega arith)))
 counts_at past _ o e is = (is, rw e refl)
 
 pub counted_agrees : (past : List Line) (l : Line) → Agrees past l (counted (counts_of past) l)

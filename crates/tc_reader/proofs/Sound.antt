@@ -2,7 +2,7 @@
 use Rattle.std.proofs.{Common.{All, ℕ, ◌≡◌, ◌+◌, ◌<◌, ◌≤◌, Ok, None, List, [], ◌∷◌, length, arith, rules}, lemmas.List.Elements.All-cons}
 use Rattle.tc_entry.specs.declared.limits.TheConstants.{ARGUMENTS, BEHAVIOURS}
 use Rattle.tc_step.specs.{declared.limits.TheConstants.STEPS, Prelude.ScriptView}
-use Rattle.tc_reader.{specs.{Campaign.{behaviours, cases, steps}, FirstPass.{behaviours_in, placed, steps_in}, Inside.{AreCases, AreScripts, MakesScript, add_head, heads}, Names.{Word, all_of}, Scope.{Head, heads_with, with_bound}, SecondPass.misnamed, declared.line.Line.Line}, proofs.{Binding.{named_next, places_bound, head_more}, Placed.{AllPlaced, few_given, few_more, within_limits}}}
+use Rattle.tc_reader.{specs.{Campaign.{behaviours, cases, steps}, FirstPass.{placed, steps_in}, Inside.{AreCases, AreScripts, MakesScript, add_head, heads}, Names.{Word, all_of}, Scope.{Head, behaviours_before, heads_with, with_bound}, SecondPass.misnamed, declared.line.Line.Line}, proofs.{Binding.{head_more, named_next, one_longer, places_bound}, Placed.{AllPlaced, few_given, few_more, within_limits}}}
 
 -- each line is in its place, and within the limits
 abbrev pub ArePlaced : List Line → List Line → Type 0
@@ -31,14 +31,14 @@ few_steps hs ns past (Line.Step call ∷ rest) are few =
 few_steps hs ns past (Line.Skipped ∷ rest) are few = few_steps hs ns (Line.Skipped ∷ past) rest are.1 few
 few_steps hs ns past (_ ∷ rest) are few = grind arith
 
-few_heads : (hs : List Head) (past rest : List Line) → ArePlaced past rest → length hs ≤ behaviours_in past → behaviours_in past ≤ BEHAVIOURS → length (heads_with hs rest) ≤ BEHAVIOURS
-unfolding behaviours_in
+few_heads : (hs : List Head) (past rest : List Line) → ArePlaced past rest → length hs ≤ length (behaviours_before past) → length (behaviours_before past) ≤ BEHAVIOURS → length (heads_with hs rest) ≤ BEHAVIOURS
 few_heads hs past [] are le few = omega (arith, le, few)
 few_heads hs past (Line.TestCase n ∷ rest) are le few = omega (arith, le, few)
 few_heads hs past (Line.Behaviour n ps ∷ rest) are le few =
-    let low : behaviours_in past < BEHAVIOURS = (few_more past n ps (within_limits past (Line.Behaviour n ps) are.0)).0 in
+    let low : length (behaviours_before past) < BEHAVIOURS = (few_more past n ps (within_limits past (Line.Behaviour n ps) are.0)).0 in
     let grown : length (add_head n (length ps) hs) ≤ length hs + 1 = head_more n (length ps) hs in
-    few_heads (add_head n (length ps) hs) (Line.Behaviour n ps ∷ past) rest are.1 (omega (arith, le, grown)) (omega (arith, low))
+    let long = one_longer n (behaviours_before past) in
+    few_heads (add_head n (length ps) hs) (Line.Behaviour n ps ∷ past) rest are.1 (omega (arith, le, grown, long)) (omega (arith, low, long))
 few_heads hs past (l ∷ rest) are le few = few_heads hs (l ∷ past) rest are.1 le few
 
 -- ---- scripts
@@ -62,7 +62,6 @@ are_scripts hs past (Line.Behaviour n ps ∷ rest) are named =
 are_scripts hs past (l ∷ rest) are named = are_scripts hs (l ∷ past) rest are.1 (named_next past l rest named).1
 
 pub are_cases : (past ls : List Line) → ArePlaced past ls → misnamed past ls ≡ None → AreCases ls
-unfolding behaviours_in
 are_cases past [] are named = tt
 are_cases past (Line.TestCase n ∷ rest) are named =
     let two = named_next past (Line.TestCase n) rest named in

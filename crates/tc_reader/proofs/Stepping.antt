@@ -1,8 +1,8 @@
 -- What the commonest lines say, and what the walk makes of them.
-use Rattle.std.{proofs.{Common.{ℕ, ◌≡◌, ◌∙◌, get_or, Bool, true, false, Some, None, Ok, Err, List, [], ◌∷◌, ◌++◌, length, refl, sym, ap, arith, codes, tests}, lemmas.{Bool.Decides.{Decides-by_and, nat_tests}, List.Splits.slice_split_none, Slice.Eq.{HasBytesAt, text_from_reads}}}, specs.{Prelude.{◌==◌, ◌&&◌, nat_le, if◌then◌else◌, is_some, IsTrue}, List.{list_all, list_any, slice_split}, Option.option_map_or}}
-use Rattle.tc_entry.specs.Prelude.{IsName, UserVerdict, given, is_name_byte, name_of}
+use Rattle.std.{proofs.{Common.{ℕ, ◌≡◌, ◌∙◌, get_or, Bool, true, false, Some, None, Ok, Err, List, [], ◌∷◌, ◌++◌, length, refl, sym, arith, codes, tests}, lemmas.{Bool.Decides.{Decides-by_and, nat_tests}, List.Splits.slice_split_none, Slice.Eq.{HasBytesAt, text_from_reads}}}, specs.{Prelude.{◌==◌, ◌&&◌, ◌||◌, nat_le, bytes_eq, if◌then◌else◌, is_some, IsTrue}, List.{AllByRecursion, list_all, list_any, slice_split}, Option.option_map_or}}
+use Rattle.tc_entry.{specs.Prelude.{IsName, UserVerdict, given, is_name, is_name_byte, name_of}, proofs.Lemmas.Names.{name_parts}}
 use Rattle.tc_step.specs.{declared.{place.{Place.Place, TargetPlace.TargetPlace}, step.{Status.Status, Step.Step}}, Prelude.{of_target, target_map}}
-use Rattle.tc_reader.{specs.{Campaign.{place, step_of}, FirstPass.{argument_count, open_after}, Inside.{IsStepOf, IsTargetOf, Takes, WalkView, after, counted, counted_with, fault_in, if_bound, keyword_text, place_in, with_made_step}, Line.{are_printable, form, line_of, reference, target_named, word_name}, Names.{Word, among, index_of}, SecondPass.is_unbound, Text.words, Words.{is_name, is_text, keyword, name, verdict}, declared.{counts.{Counts.Counts, Open.Open}, fault.ReadFault.ReadFault, kind.ScriptKind.ScriptKind, line.{Call.Call, Keyword.Keyword, Line.Line}}}, proofs.{Naming.{name_is_found, name_is_said, other_is}, Skipping.{comment_line, empty_line}}}
+use Rattle.tc_reader.{specs.{Campaign.{place, step_of}, FirstPass.{argument_count, open_after}, Inside.{IsStepOf, IsTargetOf, Takes, WalkView, after, counted, counted_with, fault_in, if_bound, keyword_text, place_in, with_made_step}, Line.{form, line_of, reference, target_named, word_name}, Names.{Word, among, index_of}, SecondPass.is_unbound, Text.words, Words.{is_text, keyword, verdict}, declared.{counts.{Counts.Counts, Open.Open}, fault.ReadFault.ReadFault, kind.ScriptKind.ScriptKind, line.{Call.Call, Keyword.Keyword, Line.Line}}}, proofs.{Skipping.{comment_line, empty_line}}}
 
 -- the word has the length and the bytes of the text
 abbrev pub Spells : List ℕ → List ℕ → Type 0
@@ -14,11 +14,11 @@ same word text is = text_from_reads word text is.0 is.1
 -- ---- verdict calls
 
 gets : line_of (codes "getverdict") ≡ Ok (Line.Step Call.GetVerdict)
-unfolding line_of words is_text keyword verdict are_printable form
+unfolding line_of words is_text keyword verdict form
 gets = refl
 
 sets : (v : UserVerdict) → line_of (codes "setverdict " ++ name_of (given v)) ≡ Ok (Line.Step (Call.SetVerdict v))
-unfolding line_of words is_text keyword verdict are_printable form
+unfolding line_of words is_text keyword verdict form
 sets UserVerdict.None = refl
 sets _ = refl
 
@@ -40,12 +40,12 @@ record IsOne (word : List ℕ) : Type 0 where
 
 asks : (s : Status) (word : List ℕ) (t : TargetPlace (Place Word)) → IsOne word → target_named word ≡ Ok t
     → line_of (keyword_text (Keyword.Ask s) ++ 32 ∷ word) ≡ Ok (Line.Step (Call.Ask s t))
-unfolding line_of words is_text keyword are_printable form
+unfolding line_of words is_text keyword form
 asks Status.Running word t one is = rw (one.is_one, one.is_printable, one.is_some, is) refl
 asks _ word t one is = rw (one.is_one, one.is_printable, one.is_some, is) refl
 
 waits : (word : List ℕ) (t : TargetPlace (Place Word)) → IsOne word → target_named word ≡ Ok t → line_of (codes "wait done " ++ word) ≡ Ok (Line.Step (Call.Wait false t))
-unfolding line_of words is_text keyword are_printable form
+unfolding line_of words is_text keyword form
 waits word t one is = rw (one.is_one, one.is_printable, one.is_some, is) refl
 
 named_by : (ns : List Word) (word text : List ℕ) (t : TargetPlace (Place ℕ)) (named : TargetPlace (Place Word)) → Spells word text → IsOne text → target_named text ≡ Ok named
@@ -74,17 +74,27 @@ allowed_byte b h = (grind (arith, nat_tests, tests, h), grind (arith, nat_tests,
 
 one_name : (word : List ℕ) → IsName word → IsOne word
 one_name word is = record {
-  is_some = grind (arith, nat_tests, is.is_some);
-  is_one = slice_split_none (λ b. b == 32) word (λ i d lt. (allowed_byte (get_or word i d) (is.allowed i d lt)).1);
+  is_some = grind (arith, nat_tests, (name_parts word is).some);
+  is_one = slice_split_none (λ b. b == 32) word (λ i d lt. (allowed_byte (get_or word i d) ((name_parts word is).allowed i d lt)).1);
   is_printable =
       (Decides-by_and (λ b. nat_le 32 b && nat_le b 126) (λ b. (nat_le 32 b && nat_le b 126) ≡ true) (list_all (λ b. nat_le 32 b && nat_le b 126)) (λ b. (λ e. e, λ e. e)) refl (λ _ _. refl) word).1
-      (λ i d lt. (allowed_byte (get_or word i d) (is.allowed i d lt)).0);
+      (λ i d lt. (allowed_byte (get_or word i d) ((name_parts word is).allowed i d lt)).0);
 }
 
-target_of : (word : List ℕ) → IsName word → target_named word ≡ Ok (TargetPlace.One (Place.Bound word))
+neither : (a b : Bool) → (a || b) ≡ false → (a ≡ false) × (b ≡ false)
+neither false b e = (refl, e)
+neither true b e = absurd cc
+
+others : (word : List ℕ) (texts : List (List ℕ)) → list_any (bytes_eq word) texts ≡ false → AllByRecursion (λ text. is_text word text ≡ false) texts
+unfolding is_text
+others word [] e = tt
+others word (t ∷ texts) e = let two = neither (bytes_eq word t) (list_any (bytes_eq word) texts) e in (two.0, others word texts two.1)
+
+target_of : (word : List ℕ) → is_name word ≡ true → target_named word ≡ Ok (TargetPlace.One (Place.Bound word))
 unfolding target_named reference word_name
 target_of word is =
-    rw (other_is word (codes "any") is.not_any, other_is word (codes "all") is.not_all, other_is word (codes "mtc") is.not_mtc, other_is word (codes "self") is.not_self, name_is_found word is) refl
+    let no = others word (codes "all" ∷ codes "any" ∷ codes "mtc" ∷ codes "self" ∷ []) (name_parts word is).unreserved in
+    rw (no.1.0, no.0, no.1.1.0, no.1.1.1.0, is) refl
 
 bound_at : (ns : List Word) (word : Word) (i : ℕ) → place_in ns word ≡ Some i
     → if_bound ns (Place.Bound word ∷ []) (TargetPlace.One (Place.Bound (index_of word ns))) ≡ Some (TargetPlace.One (Place.Bound i))
@@ -95,20 +105,9 @@ bound_at ns word i at = by (among word ns) refl at
     by true found e = let same : index_of word ns ≡ i = cc in rw (found, same) refl
     by false found e = absurd cc
 
-pub bound_name : (ns : List Word) (word n : List ℕ) (i : ℕ) → name word ≡ Some n → place_in ns n ≡ Some i → IsTargetOf ns word (TargetPlace.One (Place.Bound i))
-bound_name ns word n i named at = by (is_name word) refl named
-  where
-    by : (b : Bool) → is_name word ≡ b → (if b then Some word else None) ≡ Some n → IsTargetOf ns word (TargetPlace.One (Place.Bound i))
-    by true e is =
-        let one = name_is_said word e in
-        let same : word ≡ n = cc in
-        record {
-          target = TargetPlace.One (Place.Bound word);
-          is = λ s. asks s word _ (one_name word one) (target_of word one);
-          is_wait = waits word _ (one_name word one) (target_of word one);
-          is_bound = bound_at ns word i (ap (place_in ns) same ∙ at);
-        }
-    by false e is = absurd cc
+pub bound_name : (ns : List Word) (word : List ℕ) (i : ℕ) → is_name word ≡ true → place_in ns word ≡ Some i → IsTargetOf ns word (TargetPlace.One (Place.Bound i))
+bound_name ns word i is at =
+    record { target = TargetPlace.One (Place.Bound word); is = λ s. asks s word _ (one_name word is) (target_of word is); is_wait = waits word _ (one_name word is) (target_of word is); is_bound = bound_at ns word i at }
 
 pub ruleset target_rules = (own, main, any, all, bound_name)
 

@@ -1,8 +1,8 @@
 -- What the walk has found of the lines before, whatever lines follow.
 use Rattle.std.{proofs.{Common.{ℕ, suc, ◌≡◌, ◌≤◌, ◌∙◌, ◌+◌, Bool, true, false, Option, Some, None, Result, Ok, Err, List, [], ◌∷◌, ◌++◌, length, All, refl, sym, ap, arith, append_assoc}, lemmas.List.{Elements.All-same, append-nil, map-append}}, specs.{Prelude.{is_some, if◌then◌else◌}, List.list_any, Option.{option_map, option_map_or, option_or, unwrap_or}}}
 use Rattle.tc_step.specs.{declared.step.Step.Step, Prelude.{ScriptView, of_group, of_target}}
-use Rattle.tc_reader.specs.{Campaign.CampaignView, Campaign.behaviours, Campaign.cases, Campaign.step_of, Campaign.steps, FirstPass.at_next, FirstPass.behaviours_in, FirstPass.open_after, FirstPass.opened, FirstPass.placed, Inside.AreCases, Inside.MadeView, Inside.MakeScripts, Inside.MayEnd, Inside.WalkView, Inside.after, Inside.all_filled, Inside.begins, Inside.case_fault, Inside.called as after_call, Inside.case_ended, Inside.case_left, Inside.ended, Inside.fault_at_end, Inside.fault_in, Inside.finished, Inside.first_wrong, Inside.head_fault, Inside.made_step, Inside.names_of, Inside.or_fault, Inside.start_kind, Inside.started_of, Inside.with_last, Inside.with_start, Inside.with_step, Names.Word, Names.add, Names.among, Scope.Head, Scope.behaviours_before, Scope.bound, Scope.cases_before, Inside.heads, Scope.heads_around, Scope.heads_with, Scope.with_bound, SecondPass.is_unbound, SecondPass.misnamed, SecondPass.name_fault, declared.fault.ScriptFault.ScriptFault, declared.kind.ScriptKind.ScriptKind, declared.line.Call.Call, declared.line.Line.Line, declared.counts.Open.Open, declared.made.Start.Start}
-use Rattle.tc_reader.proofs.{Binding.{add_named, head_is, head_more}, Making.{all_fill, called, called_in}, Placed.{AllPlaced, few_behaviours, in_behaviour, not_nothing}, Sound.{MakesScripts, are_cases, are_placed, onto, scripts_are}}
+use Rattle.tc_reader.specs.{Campaign.CampaignView, Campaign.behaviours, Campaign.cases, Campaign.step_of, Campaign.steps, FirstPass.at_next, FirstPass.open_after, FirstPass.opened, FirstPass.placed, Inside.AreCases, Inside.MadeView, Inside.MakeScripts, Inside.MayEnd, Inside.WalkView, Inside.after, Inside.all_filled, Inside.begins, Inside.case_fault, Inside.called as after_call, Inside.case_ended, Inside.case_left, Inside.ended, Inside.fault_at_end, Inside.fault_in, Inside.finished, Inside.first_wrong, Inside.head_fault, Inside.made_step, Inside.names_of, Inside.or_fault, Inside.start_kind, Inside.started_of, Inside.with_last, Inside.with_start, Inside.with_step, Names.Word, Names.add, Names.all_of, Names.among, Scope.Head, Scope.behaviours_before, Scope.bound, Scope.cases_before, Inside.heads, Scope.heads_around, Scope.heads_with, Scope.with_bound, SecondPass.is_unbound, SecondPass.misnamed, SecondPass.name_fault, declared.fault.ScriptFault.ScriptFault, declared.kind.ScriptKind.ScriptKind, declared.line.Call.Call, declared.line.Line.Line, declared.counts.Open.Open, declared.made.Start.Start}
+use Rattle.tc_reader.proofs.{Binding.{add_named, all_last, among_each, head_is, head_more, none_of_each, one_longer}, Making.{all_fill, called, called_in}, Placed.{AllPlaced, few_behaviours, in_behaviour, not_nothing}, Sound.{MakesScripts, are_cases, are_placed, onto, scripts_are}}
 
 -- ---- faults
 
@@ -113,17 +113,17 @@ IsMade (Some n) w past = IsInCase w past n
 -- what the walk has found of the lines before
 pub record IsWalked (w : WalkView) (past : List Line) : Type 0 where
   pub placed : AllPlaced past
-  pub cases_used : w.names.cases ≡ cases_before past
-  pub used : names_of w.names.heads ≡ behaviours_before past
+  pub cases_used : w.names.cases ≡ all_of [] (cases_before past)
+  pub used : names_of w.names.heads ≡ all_of [] (behaviours_before past)
   pub bound_now : w.names.bound ≡ bound past
-  pub few : length w.names.heads ≤ behaviours_in past
+  pub few : length w.names.heads ≤ length (behaviours_before past)
   pub is_open : opened past ≡ Open.Behaviour → is_some w.made.current ≡ true
   pub heads_are : (opened past ≡ Open.Nothing → ⊥) → (rest : List Line) → heads_around past rest ≡ heads_with w.names.heads rest
   pub named : (rest : List Line) → misnamed [] (onto past rest) ≡ option_or (first_wrong (heads_with w.names.heads rest) w.starts) (option_or w.fault (misnamed past rest))
   pub made : w.fault ≡ None → IsMade w.made.case w past
 
 pub walked_first : IsWalked begins []
-unfolding behaviours_in opened
+unfolding opened
 walked_first = record {
   placed = tt;
   cases_used = refl;
@@ -169,7 +169,7 @@ skipped_made (Some n) w past is = record {
     same_called (Some b) rest = refl
 
 pub walked_skipped : (w : WalkView) (past : List Line) → IsWalked w past → IsWalked w (Line.Skipped ∷ past)
-unfolding behaviours_in opened
+unfolding opened
 walked_skipped w past is = record {
   placed = (refl, is.placed);
   cases_used = is.cases_used;
@@ -192,7 +192,7 @@ end_made (Some n) number w past is = record {
 }
 
 walked_end : (w : WalkView) (past : List Line) → IsWalked w past → placed past Line.End ≡ Ok Line.End → IsWalked (after (length past + 1) Line.End w) (Line.End ∷ past)
-unfolding behaviours_in opened
+unfolding opened
 walked_end w past is at = record {
   placed = (at, is.placed);
   cases_used = is.cases_used;
@@ -221,19 +221,20 @@ behaviour_made (Some m) number n ps w past is = record {
 
 walked_behaviour : (n : Word) (ps : List Word) (w : WalkView) (past : List Line) → IsWalked w past → placed past (Line.Behaviour n ps) ≡ Ok (Line.Behaviour n ps)
     → IsWalked (after (length past + 1) (Line.Behaviour n ps) w) (Line.Behaviour n ps ∷ past)
-unfolding behaviours_in opened
+unfolding opened
 walked_behaviour n ps w past is at =
     let l : Line = Line.Behaviour n ps in
     let more = head_more n (length ps) w.names.heads in
     let kind = head_fault w.names.heads n ps in
     let same : head_fault w.names.heads n ps ≡ name_fault [] (behaviours_before past) [] [] l =
-    head_is w.names.heads [] [] [] n ps ∙ ap (λ (bs : List Word). name_fault [] bs [] [] l) is.used in
+    head_is w.names.heads [] [] [] n ps ∙ ap (λ (bs : List Word). name_fault [] bs [] [] l) is.used ∙ rw (among_each n (behaviours_before past), none_of_each (behaviours_before past)) refl in
+    let long = one_longer n (behaviours_before past) in
     record {
       placed = (at, is.placed);
       cases_used = is.cases_used;
-      used = add_named n (length ps) w.names.heads ∙ ap (add n) is.used;
+      used = add_named n (length ps) w.names.heads ∙ ap (add n) is.used ∙ sym (all_last [] (behaviours_before past) n);
       bound_now = refl;
-      few = omega (arith, more, is.few);
+      few = omega (arith, more, is.few, long);
       is_open = λ e. refl;
       heads_are = λ some rest. is.heads_are (not_nothing past l at refl) (l ∷ rest);
       named = λ rest.
@@ -283,7 +284,7 @@ call_made (Some n) number call s w past is none same some = record {
 
 walked_call : (call : Call) (w : WalkView) (past : List Line) → IsWalked w past → placed past (Line.Step call) ≡ Ok (Line.Step call) → (r : Result Step ScriptKind) → made_step w.names.bound call ≡ r
     → IsWalked (after_call (length past + 1) call r w) (Line.Step call ∷ past)
-unfolding behaviours_in opened
+unfolding opened
 walked_call call w past is at r same = by r same
   where
     l : Line
@@ -419,16 +420,16 @@ case_begun n number w past is none = record {
 
 walked_case : (n : Word) (w : WalkView) (past : List Line) → IsWalked w past → placed past (Line.TestCase n) ≡ Ok (Line.TestCase n)
     → IsWalked (after (length past + 1) (Line.TestCase n) w) (Line.TestCase n ∷ past)
-unfolding behaviours_in opened
+unfolding opened
 walked_case n w past is at =
     let l : Line = Line.TestCase n in
     let wrong = first_wrong w.names.heads w.starts in
     let kind = case_fault w.names.cases n in
     let same : case_fault w.names.cases n ≡ name_fault (cases_before past) [] [] [] l =
-    ap (λ (cs : List Word). name_fault cs [] [] [] l) is.cases_used in
+    ap (λ (cs : List Word). name_fault cs [] [] [] l) is.cases_used ∙ rw (among_each n (cases_before past)) refl in
     record {
       placed = (at, is.placed);
-      cases_used = ap (add n) is.cases_used;
+      cases_used = ap (add n) is.cases_used ∙ sym (all_last [] (cases_before past) n);
       used = refl;
       bound_now = is.bound_now;
       few = omega arith;

@@ -2,7 +2,7 @@
 use Rattle.std.specs.{Prelude.{ℕ, ◌+◌, ◌||◌, ◌&&◌, not, nat_le, nat_lt, Bool, false, if◌then◌else◌, Option, Some, None, is_some, Result, Ok, Err, List, [], ◌∷◌, length, reverse}, Option.unwrap_or, Result.result_map_both}
 use Rattle.tc_entry.specs.declared.limits.TheConstants.{ARGUMENTS, BEHAVIOURS}
 use Rattle.tc_step.specs.declared.limits.TheConstants.{STEPS}
-use Rattle.tc_reader.specs.{Line.{line_of, ◌>>=◌}, declared.{fault.ScriptFault.ScriptFault, kind.ScriptKind.ScriptKind, line.{Call.Call, Line.Line}, counts.Open.Open}}
+use Rattle.tc_reader.specs.{Line.{line_of, ◌>>=◌}, Scope.{behaviours_before, cases_before}, declared.{fault.ScriptFault.ScriptFault, kind.ScriptKind.ScriptKind, line.{Call.Call, Line.Line}, counts.Open.Open}}
 
 -- what is open after a line, by what is open before it, if the line may be there
 abbrev pub open_after : Line → Open → Option Open
@@ -20,20 +20,7 @@ unfoldable pub opened : List Line → Open
 opened [] = Open.Nothing
 opened (l ∷ past) = unwrap_or (open_after l (opened past)) Open.Nothing
 
--- the test cases so far
-unfoldable pub cases_in : List Line → ℕ
-cases_in [] = 0
-cases_in (Line.TestCase n ∷ past) = cases_in past + 1
-cases_in (_ ∷ past) = cases_in past
-
--- in the test case that is open
-unfoldable pub behaviours_in : List Line → ℕ
-behaviours_in [] = 0
-behaviours_in (Line.TestCase n ∷ past) = 0
-behaviours_in (Line.Behaviour n ps ∷ past) = behaviours_in past + 1
-behaviours_in (_ ∷ past) = behaviours_in past
-
--- in the behaviour that is open
+-- the steps so far of the behaviour that is open
 unfoldable pub steps_in : List Line → ℕ
 steps_in [] = 0
 steps_in (Line.Behaviour n ps ∷ past) = 0
@@ -47,8 +34,8 @@ argument_count _ = 0
 
 -- the line passes a limit
 abbrev pub passes_limit : Line → List Line → Bool
-passes_limit (Line.TestCase n) past = nat_le 1000 (cases_in past)
-passes_limit (Line.Behaviour n ps) past = nat_le BEHAVIOURS (behaviours_in past) || nat_lt ARGUMENTS (length ps)
+passes_limit (Line.TestCase n) past = nat_le 1000 (length (cases_before past))
+passes_limit (Line.Behaviour n ps) past = nat_le BEHAVIOURS (length (behaviours_before past)) || nat_lt ARGUMENTS (length ps)
 passes_limit (Line.Step call) past = nat_le STEPS (steps_in past) || nat_lt ARGUMENTS (argument_count call)
 passes_limit _ past = false
 
@@ -67,6 +54,6 @@ at_next past kind = record { line = length past + 1; kind = kind }
 -- fault, BadByte to TooMany, with its number. The text may end where a test case may begin, if there is one before.
 abbrev pub parsed : List Line → List (List ℕ) → Result (List Line) ScriptFault
 parsed past [] =
-    if is_some (open_after (Line.TestCase []) (opened past)) && nat_lt 0 (cases_in past) then Ok (reverse past)
+    if is_some (open_after (Line.TestCase []) (opened past)) && nat_lt 0 (length (cases_before past)) then Ok (reverse past)
     else Err (at_next past ScriptKind.Cut)
 parsed past (bytes ∷ more) = result_map_both (λ l. l) (at_next past) (line_of bytes >>= placed past) >>= λ l. parsed (l ∷ past) more

@@ -3,7 +3,7 @@
 use Rattle.std.specs.{Prelude.{◌+◌, ◌-◌, ◌≡◌, ◌||◌, nat_le, nat_lt, Bool, if◌then◌else◌, Result, Ok, Err, List, [], ◌∷◌, ◌++◌, length, ℕ, ◌==◌, ◌&&◌, not, is_some, Option, Some, None, map, ◌≤◌, ◌<◌, false, All, codes, take, slice_index}, List.list_any, Option.{option_map, option_map_or, option_or}, Result.result_map_both}
 use Rattle.tc_entry.specs.declared.limits.TheConstants.{ARGUMENTS, BEHAVIOURS}
 use Rattle.tc_step.specs.{declared.{limits.TheConstants.STEPS, place.{Place.Place, TargetPlace.TargetPlace}, step.{Status.Status, Step.Step}}, Prelude.{of_group, of_target, target_map, IsScript, ScriptView}}
-use Rattle.tc_reader.specs.{Campaign.{CampaignView, IsCase, place, step_of, steps}, FirstPass.{argument_count, at_next, behaviours_in, cases_in, open_after, opened, placed, steps_in}, Line.{line_of, ◌>>=◌}, Names.{Word, add, all_of, among, has_twice, index_of}, Scope.{Head, heads_with, parameters_of, with_bound}, SecondPass.is_unbound, declared.{counts.{Counts.Counts, Open.Open, TheConstants.TEST_CASES}, fault.{ReadFault.ReadFault, ScriptFault.ScriptFault}, kind.ScriptKind.ScriptKind, line.{Call.Call, Keyword.Keyword, Line.Line}, made.Start.Start}}
+use Rattle.tc_reader.specs.{Campaign.{CampaignView, IsCase, place, step_of, steps}, FirstPass.{argument_count, at_next, open_after, opened, placed, steps_in}, Line.{line_of, ◌>>=◌}, Names.{Word, add, all_of, among, has_twice, index_of}, Scope.{Head, behaviours_before, cases_before, heads_with, parameters_of, with_bound}, SecondPass.is_unbound, declared.{counts.{Counts.Counts, Open.Open, TheConstants.TEST_CASES}, fault.{ReadFault.ReadFault, ScriptFault.ScriptFault}, kind.ScriptKind.ScriptKind, line.{Call.Call, Keyword.Keyword, Line.Line}, made.Start.Start}}
 
 -- the behaviours of a test case: their names, and the numbers of their parameters
 abbrev pub signatures : List (Word × ScriptView) → List Head
@@ -15,7 +15,7 @@ judged past bytes = result_map_both (λ l. l) (at_next past) (line_of bytes >>= 
 
 -- what is remembered of these lines
 abbrev pub counts_of : List Line → Counts
-counts_of past = record { state = opened past; cases = cases_in past; behaviours = behaviours_in past; steps = steps_in past }
+counts_of past = record { state = opened past; cases = length (cases_before past); behaviours = length (behaviours_before past); steps = steps_in past }
 
 -- what is remembered after a line, if this is open then: the line may pass a limit
 abbrev pub counted_with : Line → Open → Counts → Result Counts ScriptKind

@@ -1,7 +1,8 @@
 -- What a line says.
-use Rattle.std.specs.{Prelude.{ℕ, ◌≡◌, ◌==◌, ◌&&◌, nat_le, not, Bool, true, false, if◌then◌else◌, Some, None, Result, Ok, Err, List, [], ◌∷◌, codes}, List.list_all, Map.lookup, Option.ok_or}
+use Rattle.std.specs.{Prelude.{ℕ, ◌≡◌, ◌==◌, ◌&&◌, nat_le, not, Bool, true, false, if◌then◌else◌, Some, None, Result, Ok, Err, List, [], ◌∷◌, codes, slice_index}, List.list_all, Map.lookup, Option.{ok_or, option_map_or}}
+use Rattle.tc_entry.specs.Prelude.{is_name}
 use Rattle.tc_step.specs.declared.place.{GroupPlace.GroupPlace, Place.Place, TargetPlace.TargetPlace}
-use Rattle.tc_reader.specs.{Text.words, Words.{is_text, keyword, name, verdict}, declared.{kind.{LineFault.LineFault, ScriptKind.ScriptKind}, line.{Call.Call, Keyword.Keyword, Line.Line}}}
+use Rattle.tc_reader.specs.{Text.words, Words.{is_text, keyword, verdict}, declared.{kind.{LineFault.LineFault, ScriptKind.ScriptKind}, line.{Call.Call, Keyword.Keyword, Line.Line}}}
 
 infixl 10 ◌>>=◌
 -- what is made of a result, or its fault
@@ -16,14 +17,12 @@ each f (x ∷ xs) = f x >>= λ y. each f xs >>= λ ys. Ok (y ∷ ys)
 
 -- the word as a name
 unfoldable pub word_name : List ℕ → Result (List ℕ) ScriptKind
-word_name word = ok_or (name word) ScriptKind.BadName
+word_name word = if is_name word then Ok word else Err ScriptKind.BadName
 
 -- the component that a word names
 unfoldable pub reference : List ℕ → Result (Place (List ℕ)) ScriptKind
 reference word =
-    if is_text word (codes "mtc") then Ok Place.Main
-    else if is_text word (codes "self") then Ok Place.Own
-    else word_name word >>= λ n. Ok (Place.Bound n)
+    option_map_or (λ p. Ok p) (lookup (is_text word) ((codes "mtc", Place.Main) ∷ (codes "self", Place.Own) ∷ [])) (word_name word >>= λ n. Ok (Place.Bound n))
 
 -- the components that the word after stop or kill names
 unfoldable pub group_named : List ℕ → Result (GroupPlace (Place (List ℕ))) ScriptKind
@@ -32,9 +31,8 @@ group_named word = if is_text word (codes "all") then Ok GroupPlace.All else ref
 -- the components that the word after a question or a wait names
 unfoldable pub target_named : List ℕ → Result (TargetPlace (Place (List ℕ))) ScriptKind
 target_named word =
-    if is_text word (codes "any") then Ok TargetPlace.Any
-    else if is_text word (codes "all") then Ok TargetPlace.All
-    else reference word >>= λ r. Ok (TargetPlace.One r)
+    option_map_or (λ t. Ok t) (lookup (is_text word) ((codes "any", TargetPlace.Any) ∷ (codes "all", TargetPlace.All) ∷ []))
+    (reference word >>= λ r. Ok (TargetPlace.One r))
 
 -- the line of a create that binds the word r; after it may come the name that the component is given
 abbrev pub create : List ℕ → Bool → List (List ℕ) → Result Line ScriptKind
@@ -64,21 +62,12 @@ form Keyword.SetVerdict (v ∷ []) = ok_or (verdict v) ScriptKind.BadLine >>= λ
 form Keyword.GetVerdict [] = Ok (Line.Step Call.GetVerdict)
 form _ _ = Err ScriptKind.BadLine
 
--- no byte is outside 32 to 126
-unfoldable pub are_printable : List ℕ → Bool
-are_printable bytes = list_all (λ b. nat_le 32 b && nat_le b 126) bytes
-
--- the word begins with `#`
-abbrev pub is_comment : List ℕ → Bool
-is_comment [] = false
-is_comment (b ∷ bs) = b == 35
-
--- the line with these bytes and these words
+-- the line with these bytes and these words: a comment begins with `#`, 35, and in another line no byte is outside 32 to 126
 abbrev pub line_with : List ℕ → List (List ℕ) → Result Line ScriptKind
 line_with bytes [] = Ok Line.Skipped
 line_with bytes (w ∷ ws) =
-    if is_comment w then Ok Line.Skipped
-    else if not (are_printable bytes) then Err ScriptKind.BadByte
+    if slice_index w 0 == 35 then Ok Line.Skipped
+    else if not (list_all (λ b. nat_le 32 b && nat_le b 126) bytes) then Err ScriptKind.BadByte
     else ok_or (keyword w) ScriptKind.BadLine >>= λ k. form k ws
 
 -- what a line says, or its first fault: BadByte, BadLine or BadName

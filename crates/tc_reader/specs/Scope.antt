@@ -6,14 +6,14 @@ use Rattle.tc_reader.specs.{Names.{Word, add, all_of}, Words.is_text, declared.l
 -- the names of the test cases before
 abbrev pub cases_before : List Line → List Word
 cases_before [] = []
-cases_before (Line.TestCase n ∷ past) = add n (cases_before past)
+cases_before (Line.TestCase n ∷ past) = cases_before past ++ n ∷ []
 cases_before (_ ∷ past) = cases_before past
 
 -- the names of the behaviours before, in the same test case
 abbrev pub behaviours_before : List Line → List Word
 behaviours_before [] = []
 behaviours_before (Line.TestCase n ∷ past) = []
-behaviours_before (Line.Behaviour n ps ∷ past) = add n (behaviours_before past)
+behaviours_before (Line.Behaviour n ps ∷ past) = behaviours_before past ++ n ∷ []
 behaviours_before (_ ∷ past) = behaviours_before past
 
 -- the names that are bound after a call

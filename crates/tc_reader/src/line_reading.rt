@@ -1,6 +1,6 @@
 //! A line is read as its form, or by its first fault.
-ghost use Rattle.std.specs.Prelude.{◌≡◌, ◌∷◌, [], map};
-ghost use Rattle.tc_reader.specs.{Line.Gives, Line.are_printable, Line.create, Line.each, Line.form, Line.group_named, Line.is_comment as comment, Line.line_of, Line.reference, Line.target_named, Line.word_name};
+ghost use Rattle.std.specs.{Prelude.{◌≡◌, ◌==◌, ◌&&◌, ◌∷◌, [], map, nat_le, slice_index}, List.list_all};
+ghost use Rattle.tc_reader.specs.{Line.Gives, Line.create, Line.each, Line.form, Line.group_named, Line.line_of, Line.reference, Line.target_named, Line.word_name};
 
 use crate::kind::{LineFault, ScriptKind};
 use crate::line::{Call, Keyword, Line};
@@ -169,16 +169,15 @@ fn read_form(alloc: Global, keyword: Keyword, words: &[&[u8]]) -> Result<Line, L
     }
 }
 
-#[tactic(auto, unfolding(crate::specs::Line::are_printable))]
 fn is_printable(line: &[u8]) -> bool
-    ensures { result ≡ are_printable line.now }
+    ensures { result ≡ list_all (λ b. nat_le 32 b && nat_le b 126) line.now }
 {
     line.iter().all(|byte| 32 <= *byte && *byte <= 126)
 }
 
 /// Whether a line whose first word this is says nothing.
 pub fn is_comment(word: &[u8]) -> bool
-    ensures { result ≡ comment word.now }
+    ensures { result ≡ (slice_index word.now 0 == 35) }
 {
     matches!(word, [b'#', ..])
 }

@@ -1,6 +1,7 @@
 //! The words of the script language: keywords, names and verdicts.
-ghost use Rattle.std.specs.Prelude.{◌≡◌, Some};
-ghost use Rattle.tc_reader.specs.{Words.is_text, Words.keyword, Words.name, Words.verdict};
+ghost use Rattle.std.specs.Prelude.{◌≡◌, None, Some, if◌then◌else◌};
+ghost use Rattle.tc_entry.specs.Prelude.{is_name};
+ghost use Rattle.tc_reader.specs.{Words.is_text, Words.keyword, Words.verdict};
 
 use crate::line::Keyword;
 use tc_entry::{Name, UserVerdict};
@@ -88,9 +89,8 @@ pub(crate) fn read_verdict(word: &[u8]) -> Option<UserVerdict>
 }
 
 /// The name that is spelled so, if there is one.
-#[tactic(auto, using(crate::proofs::Naming::naming_rules))]
 pub fn read_name(word: &[u8]) -> Option<Name>
-    ensures { result ≡ name word.now }
+    ensures { result ≡ (if is_name word.now then Some word.now else None) }
 {
     Name::of_bytes(word)
 }

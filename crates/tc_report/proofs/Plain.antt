@@ -3,6 +3,7 @@ use Rattle.std.{proofs.{Common.{ℕ, ◌≡◌, ◌<◌, ◌≤◌, true, false,
 use Rattle.csv.specs.Writing.{default_writer, needs_byte, field_text, fields_text, row_text, is_blank}
 use Rattle.tc_rules.specs.Prelude.{Verdict, name_of, is_name_byte, IsName}
 use Rattle.tc_report.specs.{Inside.{counts_of, csv_line}, Status.ended, declared.{results.CaseEnd.CaseEnd, summary.Summary.Summary}}
+use Rattle.tc_entry.proofs.Lemmas.Names.{name_parts}
 
 -- no byte of the field calls for quotes
 abbrev pub IsUnquoted : List ℕ → Type 0
@@ -15,7 +16,7 @@ name_byte_above : (b : ℕ) → is_name_byte b ≡ true → 47 < b
 name_byte_above b h = grind (arith, nat_tests)
 
 name-unquoted : (bs : List ℕ) → IsName bs → IsUnquoted bs
-name-unquoted bs name = list_any_none (needs_byte default_writer) bs (λ k d h. needs-word_byte (slice_index_or bs k d) (name_byte_above (slice_index_or bs k d) (name.allowed k d h)))
+name-unquoted bs name = list_any_none (needs_byte default_writer) bs (λ k d h. needs-word_byte (slice_index_or bs k d) (name_byte_above (slice_index_or bs k d) ((name_parts bs name).allowed k d h)))
 
 digit_above : (n : ℕ) → IsBoundedDecimal n → (k d : ℕ) → k < length (decimal n) → 47 < slice_index_or (decimal n) k d
 digit_above n digits k d h =

@@ -3,7 +3,7 @@ use Rattle.std.{proofs.{Common.{ℕ, ◌≡◌, ◌∙◌, ◌+◌, arith, List,
 use Rattle.tc_stream.specs.Prelude.{AppendsPrefix}
 use Rattle.tc_blocks.specs.{Prelude.{end_text, entry_line, with_lf, header_text, line_text}, declared.{header.Header.Header, line.Line.Line}}
 use Rattle.tc_rules.specs.{declared.refusal.CaseError.CaseError, Prelude.{Entry, Verdict, refusal_text}}
-use Rattle.tc_report.specs.{Blocks.named_block, Csv.{columns_text, row_line}, Inside.{form_text, namings, text_so_far}, Live.{closing_text, part_text}, Output.LeavesPrefix, Report.{abort_text, tally_of_cases}, Summary.case_summary, declared.{fault.OutFault.OutFault, live.LiveForm.LiveForm, results.{CampaignEnd.CampaignEnd, Finished.Finished}}}
+use Rattle.tc_report.specs.{Blocks.named_block, Csv.{columns_text, row_line}, Inside.{form_text, namings, text_so_far}, Live.form_parts, Output.LeavesPrefix, Report.{abort_text, tally_of_cases}, Summary.case_summary, declared.{fault.OutFault.OutFault, live.LiveForm.LiveForm, results.{CampaignEnd.CampaignEnd, Finished.Finished}}}
 
 -- two texts, one after the other
 pub appends_both : (a b c : Option (List ℕ)) (xs ys : List ℕ) → Appends a b xs → Appends b c ys → Appends a c (xs ++ ys)
@@ -40,25 +40,36 @@ pub prefix_longer : (a b : Option (List ℕ)) (xs ys : List ℕ) → AppendsPref
 prefix_longer a b xs ys p = (p.0, omega (arith, p.1, length-append xs ys), subst (Appends a b) (sym (take-append-le p.0 xs ys p.1)) p.2)
 
 -- a test case more
-pub so_far_more : (form : LiveForm) (fs : List Finished) (f : Finished) → text_so_far form fs ++ part_text form f ≡ text_so_far form (fs ++ f ∷ [])
-so_far_more form fs f = flat_map_more (part_text form) _ fs f
+pub so_far_more : (form : LiveForm) (fs : List Finished) (f : Finished) → text_so_far form fs ++ (form_parts form).1 f ≡ text_so_far form (fs ++ f ∷ [])
+so_far_more form fs f = flat_map_more (form_parts form).1 _ fs f
 
 -- the whole text is what comes up to the last test case, and what follows it
 pub whole_text : (form : LiveForm) (fs : List Finished) (ending : CampaignEnd)
-    → text_so_far form fs ++ closing_text form (tally_of_cases fs) ending ≡ form_text form (record { finished = fs; ending = ending })
+    → text_so_far form fs ++ (form_parts form).2 (tally_of_cases fs) ending ≡ form_text form (record { finished = fs; ending = ending })
 whole_text LiveForm.Text fs ending = refl
 whole_text LiveForm.Csv fs ending = append-nil _ ∙ ap (λ l. columns_text ++ l) (sym (flat_map-map row_line case_summary fs))
 whole_text LiveForm.History fs ending = append-nil _
 whole_text LiveForm.Evidence fs ending = append-nil _
 
-pub joined_two : (old first second a : List ℕ) → a ≡ old ++ first → a ++ second ≡ old ++ (first ++ second)
-joined_two old first second a p = rw p (append_assoc old first second)
-
 pub joined : (old first second third a b : List ℕ) → a ≡ old ++ first → b ≡ a ++ second → b ++ third ≡ old ++ (first ++ (second ++ third))
 joined old first second third a b p q = rw (q, p) (append_assoc (old ++ first) second third ∙ append_assoc old first (second ++ third))
 
-pub joined_four : (old a b d e x y z : List ℕ) → x ≡ old ++ a → y ≡ x ++ b → z ≡ y ++ d → z ++ e ≡ old ++ (a ++ (b ++ (d ++ e)))
-joined_four old a b d e x y z p q r = rw (r, q, p) (append_assoc ((old ++ a) ++ b) d e ∙ (append_assoc (old ++ a) b (d ++ e) ∙ append_assoc old a (b ++ (d ++ e))))
+-- four names with a number each, and a last text
+pub joined_counts : (old a k b l d m e n last w x y z : List ℕ) → w ≡ old ++ (a ++ k) → x ≡ w ++ (b ++ l) → y ≡ x ++ (d ++ m) → z ≡ y ++ (e ++ n)
+    → z ++ last ≡ old ++ (a ++ (k ++ (b ++ (l ++ (d ++ (m ++ (e ++ (n ++ last))))))))
+joined_counts old a k b l d m e n last w x y z p q r s = rw (s, r, q, p) (simp append_assoc)
+
+-- the texts of a test case in a JUnit report, the first of three parts
+pub joined_element : (old a name b suite d time e end f groups last m n o p r t u w : List ℕ) → m ≡ old ++ (a ++ (name ++ b)) → n ≡ m ++ suite → o ≡ n ++ d → p ≡ o ++ time
+    → r ≡ p ++ e → t ≡ r ++ end → u ≡ t ++ f → w ≡ u ++ groups
+    → w ++ last ≡ old ++ (a ++ (name ++ (b ++ (suite ++ (d ++ (time ++ (e ++ (end ++ (f ++ (groups ++ last))))))))))
+joined_element old a name b suite d time e end f groups last m n o p r t u w i j k l q s v x = rw (x, v, s, q, l, k, j, i) (simp append_assoc)
+
+-- the texts of a suite, the third and the seventh of three parts
+pub joined_suite : (old a counts b name d stamp time e version f cases last m n o p r t u w : List ℕ) → m ≡ old ++ a → n ≡ m ++ counts → o ≡ n ++ (b ++ (name ++ d))
+    → p ≡ o ++ counts → r ≡ p ++ stamp → t ≡ r ++ time → u ≡ t ++ (e ++ (version ++ f)) → w ≡ u ++ cases
+    → w ++ last ≡ old ++ (a ++ (counts ++ (b ++ (name ++ (d ++ (counts ++ (stamp ++ (time ++ (e ++ (version ++ (f ++ (cases ++ last))))))))))))
+joined_suite old a counts b name d stamp time e version f cases last m n o p r t u w i j k l q s v x = rw (x, v, s, q, l, k, j, i) (simp append_assoc)
 
 module _ (h : Header) (names : List (List ℕ)) (history : List Entry) (v : Verdict) where
   abbrev first_line : List ℕ

@@ -4,10 +4,6 @@ use Rattle.tc_rules.specs.Prelude.{Entry, Group, Op, Reply, Target, is_parked}
 use Rattle.tc_text.specs.Prelude.{op_text, reply_text}
 use Rattle.tc_report.specs.{Report.shown_op, declared.naming.{Names.Names, Naming.Naming}}
 
--- the name at this place, if there is one
-abbrev pub name_at : List (Option (List ℕ)) → ℕ → Option (List ℕ)
-name_at names k = option_and_then (λ n. n) (slice_get names k)
-
 -- the name of the behaviour of run b, if it has one
 abbrev pub behaviour_of : List Naming → ℕ → Option (List ℕ)
 behaviour_of runs b = option_map (λ n. n.name) (find (λ n. n.run == b) runs)
@@ -26,7 +22,7 @@ component_text c name = if c == 0 then codes "mtc" else numbered c name
 
 -- component c
 abbrev pub component_in : Names → ℕ → List ℕ
-component_in names c = component_text c (name_at names.comps c)
+component_in names c = component_text c (option_and_then (λ n. n) (slice_get names.comps c))
 
 -- run b
 abbrev pub run_in : Names → ℕ → List ℕ

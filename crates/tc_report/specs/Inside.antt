@@ -1,10 +1,10 @@
 -- What the functions inside say, which no public clause names.
-use Rattle.std.specs.{Prelude.{ℕ, ◌≡◌, ◌+◌, ◌==◌, ◌&&◌, Bool, true, false, MatchOption, None, Option, Some, List, [], ◌∷◌, ◌++◌, codes, filter, if◌then◌else◌, length, map, nat_lt, not}, Global.Vec, Io.KnownBytes.Appends, List.{enumerate_from, flat_map, join_with_byte}, Option.{option_map_or, unwrap_or}}
+use Rattle.std.specs.{Prelude.{ℕ, ◌≡◌, ◌+◌, ◌==◌, ◌&&◌, Bool, true, false, MatchOption, None, Option, Some, List, [], ◌∷◌, ◌++◌, codes, drop, filter, if◌then◌else◌, length, map, nat_lt, not}, Global.Vec, Io.KnownBytes.Appends, List.{enumerate_from, flat_map, join_with_byte, list_any}, Option.{option_and_then, option_map_or, unwrap_or}}
 use Rattle.csv.specs.{declared.writer.Writer.Writer, Writing.{default_writer, writer_setup, fields_written, has_written, writer_under, writer_pending}}
 use Rattle.tc_stream.specs.Prelude.{AppendsPrefix}
-use Rattle.tc_rules.specs.Prelude.{Comp, Entry, Kept, StandsFor, name_in, name_of, created, is_parked, Verdict, level_of}
+use Rattle.tc_rules.specs.Prelude.{Comp, Entry, Kept, StandsFor, name_of, created, creation, is_parked, Verdict, level_of}
 use Rattle.tc_blocks.specs.declared.{header.{Header.Header, Kind.Kind}, line.Line.Line as BlockLine}
-use Rattle.tc_report.specs.{Blocks.{block_names, blocks_text}, Cause.decided_text, Csv.{columns_text, csv_of}, Live.{opening_text, part_text}, InWords.{behaviour_of, component_text, name_at}, Observers.AreTaken, Progress.{AreLinesOf, again_lines, case_place, is_failure, time_text}, Report.{count_of, report_text, tally_of_cases}, Status.{ended, verdict_status}, Summary.case_summary, SummaryText.listed, Waits.before_stuck, declared.{cause.Cause.Cause, fault.OutFault.OutFault, live.LiveForm.LiveForm, naming.Naming.Naming, progress.Progress.Progress, results.{Finished.Finished, Results.Results, Tally.Tally}, said.Said.Said, summary.Summary.Summary}}
+use Rattle.tc_report.specs.{Blocks.{block_names, blocks_text}, Cause.decided_text, Csv.{columns_text, csv_of}, Live.form_parts, InWords.{behaviour_of, component_in}, Observers.AreTaken, Progress.{AreLinesOf, again_lines, case_place, is_failure, time_text}, Report.{count_of, report_text, tally_of_cases}, Said.{named_in, remarks_from}, Status.{ended, verdict_status}, Summary.case_summary, SummaryText.listed, Waits.{played, says_stuck}, declared.{cause.Cause.Cause, fault.OutFault.OutFault, live.LiveForm.LiveForm, naming.{Names.Names, Naming.Naming}, progress.Progress.Progress, results.{Finished.Finished, Results.Results, Tally.Tally}, said.Said.Said, summary.Summary.Summary}}
 
 -- the bytes in memory, and then those that the writer holds back
 abbrev pub written_by : Writer (Vec ℕ) → List ℕ
@@ -42,7 +42,7 @@ name_or_none names b = unwrap_or (behaviour_of names b) []
 
 -- what of it comes up to the last of these test cases
 abbrev pub text_so_far : LiveForm → List Finished → List ℕ
-text_so_far form fs = opening_text form ++ flat_map (part_text form) fs
+text_so_far form fs = (form_parts form).0 ++ flat_map (form_parts form).1 fs
 
 -- if the one is the tally of some test cases, the other is that of them and one more
 abbrev pub IsOneMore : Tally → Finished → Tally → Type 0
@@ -50,7 +50,7 @@ IsOneMore before f after = (fs : List Finished) → before ≡ tally_of_cases fs
 
 -- the name that a Create gave to the component that it made, if it gave one
 abbrev pub made_name : Entry → List (Option (List ℕ))
-made_name e = option_map_or (λ (c : Comp). name_in e.op ∷ []) (created e.op e.reply) []
+made_name e = option_map_or (λ (c : Comp). option_and_then (λ m. m.1) (creation e.op) ∷ []) (created e.op e.reply) []
 
 -- a line for the name of each behaviour, from that of this run on
 abbrev pub namings : ℕ → List (List ℕ) → List BlockLine
@@ -66,9 +66,7 @@ case_lines kind f = namings 0 (block_names kind f) ++ map BlockLine.Entry f.repo
 
 -- what was said, with one line more after that many entries
 abbrev pub said_with : Said → ℕ → BlockLine → Said
-said_with s at (BlockLine.Named run name) = record s { names = s.names ++ record { run = run.0; name = name } ∷ [] }
-said_with s at (BlockLine.Remark run sentence) = record s { remarks = s.remarks ++ record { at = at; run = run; sentence = sentence } ∷ [] }
-said_with s at l = s
+said_with s at l = record { names = s.names ++ named_in l; remarks = s.remarks ++ remarks_from at (l ∷ []) }
 
 -- how many of the test cases have the overall verdict v
 abbrev pub cases_of : Verdict → List Finished → ℕ
@@ -138,10 +136,14 @@ IsSoFar shown start fs now again fault tally begun =
 abbrev pub IsNext : List ℕ → ℕ → List ℕ → ℕ → List ℕ → Type 0
 IsNext text room before left after = (ts : List (List ℕ)) → after ++ listed left ts ≡ before ++ listed room (text ∷ ts)
 
+-- one of these calls is replied to so
+abbrev pub is_cut : List Entry → Bool
+is_cut past = list_any (λ e. says_stuck e.reply) past
+
 -- the state before the first call that is replied to so; none if there is no such call
 abbrev pub IsBeforeStuck : ℕ → List Entry → Option Kept → Type 0
-IsBeforeStuck n past None = before_stuck n past ≡ None
-IsBeforeStuck n past (Some state) = (before : List Entry) × (before_stuck n past ≡ Some before) × StandsFor state before
+IsBeforeStuck n past None = is_cut (played n past) ≡ false
+IsBeforeStuck n past (Some state) = (is_cut (played n past) ≡ true) × StandsFor state (drop 1 (played n past))
 
 -- an entry that was not parked
 abbrev pub is_shown : Entry → Bool
@@ -155,11 +157,6 @@ has_failed s = nat_lt 0 (verdict_status (ended s.ending).1)
 abbrev pub numbers_with : Verdict → List Verdict → List ℕ
 numbers_with v locals = map (λ p. p.0) (filter (λ p. level_of p.1 == level_of v) (enumerate_from 0 locals))
 
--- one of them, and its name if it has one
-abbrev pub member_text : List (Option (List ℕ)) → ℕ → List ℕ
-member_text names comp = component_text comp (name_at names comp)
-
 -- all of them, each with its name if it has one
-abbrev pub members : List (Option (List ℕ)) → List Verdict → Verdict → List (List ℕ)
-members names locals v =
-    map (λ p. component_text p.0 (name_at names p.0)) (filter (λ p. level_of p.1 == level_of v) (enumerate_from 0 locals))
+abbrev pub members : Names → List Verdict → Verdict → List (List ℕ)
+members names locals v = map (λ p. component_in names p.0) (filter (λ p. level_of p.1 == level_of v) (enumerate_from 0 locals))

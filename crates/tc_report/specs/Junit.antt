@@ -15,16 +15,11 @@ escaped_byte b =
 abbrev pub with_status : ℕ → List Summary → ℕ
 with_status status ss = length (filter (λ s. verdict_status (ended s.ending).1 == status) ss)
 
--- an attribute
-unfoldable pub attribute_text : List ℕ → List ℕ → List ℕ
-attribute_text name text = name ++ (text ++ codes "\"")
-
 -- the counts, as attributes: skipped are those of which no verdict was set
 unfoldable pub counts_attributes : List Summary → List ℕ
-counts_attributes ss =
-    attribute_text (codes " tests=\"") (decimal (length ss)) ++ (attribute_text (codes " failures=\"") (decimal (with_status 1 ss))
-    ++ (attribute_text (codes " errors=\"") (decimal (with_status 2 ss))
-    ++ attribute_text (codes " skipped=\"") (decimal (length (filter (λ s. level_of (ended s.ending).1 == 0) ss)))))
+counts_attributes ss = codes " tests=\"" ++ (decimal (length ss) ++ (codes "\" failures=\"" ++ (decimal (with_status 1 ss) ++ (codes "\" errors=\""
+    ++ (decimal (with_status 2 ss) ++ (codes "\" skipped=\""
+    ++ (decimal (length (filter (λ s. level_of (ended s.ending).1 == 0) ss)) ++ codes "\"")))))))
 
 -- when a run began, as an attribute, if a clock said it: a second, as ISO 8601 has it, without a fraction
 abbrev pub stamp_attribute : Option DateTime → List ℕ
@@ -34,60 +29,39 @@ stamp_attribute begun = option_map_or (λ d. codes " timestamp=\"" ++ (datetime_
 abbrev pub no_times : Times
 no_times = record { begun = None; whole = None; cases = [] }
 
--- the attributes of the suite after its name: the counts and the times
-unfoldable pub suite_attributes : Times → List Summary → List ℕ
-suite_attributes times ss = counts_attributes ss ++ (stamp_attribute times.begun ++ time_text (codes " time=\"") times.whole (codes "\""))
-
--- the first tags
-unfoldable pub head_text : List ℕ → Times → List Summary → List ℕ
-head_text suite times ss =
-    codes "<?xml version=\"1.0\" encoding=\"UTF-8\"?>\n<testsuites" ++ (counts_attributes ss ++
-    (attribute_text (codes ">\n<testsuite name=\"") suite ++ suite_attributes times ss))
-
--- the program's version
-unfoldable pub version_text : List ℕ → List ℕ
-version_text version = attribute_text (codes ">\n<properties>\n<property name=\"version\" value=\"") version ++ codes "/>\n</properties>\n"
-
 -- what decided the verdict of a test case, and in lines of their own the same, who waits for whom, and all calls of that run
 unfoldable pub cause_element : Summary → Cause → List ℕ
 cause_element s c =
     let decision = flat_map escaped_byte (decided_text s.names c) in
     decision ++ (codes "\">\n" ++ (decision ++ (codes "\n" ++ (s.waits ++ flat_map (named_entry (codes "  ") s.names) c.log))))
 
--- the element of a verdict that is worse than pass, under this tag: what decided it; if nothing did, its name
-unfoldable pub verdict_element : Summary → List ℕ → Verdict → List ℕ
-verdict_element s tag v =
-    codes "<" ++ (tag ++ (codes " type=\"" ++ (name_of v ++ (codes "\" message=\""
-    ++ (option_map_or (cause_element s) s.cause (codes "verdict " ++ (name_of v ++ codes "\">\n")) ++ (codes "</" ++ (tag ++ codes ">\n")))))))
-
--- what is said of this end of a test case: nothing if its verdict is pass
+-- what is said of this end of a test case: of a verdict worse than pass what decided it, and if nothing did its name; nothing of pass
 unfoldable pub end_element : Summary → CaseEnd → List ℕ
 end_element s (CaseEnd.Over Verdict.None) = codes "<skipped/>\n"
 end_element s (CaseEnd.Over Verdict.Pass) = []
-end_element s (CaseEnd.Over Verdict.Error) = verdict_element s (codes "error") Verdict.Error
-end_element s (CaseEnd.Over v) = verdict_element s (codes "failure") v
+end_element s (CaseEnd.Over v) =
+    let tag = if verdict_status v == 2 then codes "error" else codes "failure" in
+    codes "<" ++ (tag ++ (codes " type=\"" ++ (name_of v ++ (codes "\" message=\""
+    ++ (option_map_or (cause_element s) s.cause (codes "verdict " ++ (name_of v ++ codes "\">\n")) ++ (codes "</" ++ (tag ++ codes ">\n")))))))
 end_element s CaseEnd.NotRun = codes "<skipped message=\"not run\"/>\n"
 end_element s ending = codes "<error type=\"" ++ ((ended ending).0 ++ (codes "\" message=\"" ++ ((ended ending).2 ++ codes "\"/>\n")))
 
--- the first tag of a test case, with its name and that of its suite, without its time
-unfoldable pub name_tag : List ℕ → List ℕ → List ℕ
-name_tag suite name = attribute_text (codes "<testcase name=\"") name ++ attribute_text (codes " classname=\"") suite
-
--- the components by their local verdicts, and the last tag of a test case
-unfoldable pub locals_element : List (Option (List ℕ)) → List Verdict → List ℕ
-locals_element names locals = codes "<system-out>\n" ++ (verdict_groups names locals ++ codes "</system-out>\n</testcase>\n")
-
--- a test case: its name, its time, how it ended and why, and its components by their local verdicts
-abbrev pub case_element : List ℕ → Option (ℕ × ℕ) → Summary → List ℕ
-case_element suite time s =
-    name_tag suite s.name ++ (time_text (codes " time=\"") time (codes "\"") ++ (codes ">\n" ++ (end_element s s.ending ++ locals_element s.names.comps s.locals)))
+-- a test case: its name and that of its suite, its time, how it ended and why, and its components by their local verdicts
+unfoldable pub case_element : List ℕ → Option (ℕ × ℕ) → Summary → List ℕ
+case_element suite time s = codes "<testcase name=\"" ++ (s.name ++ (codes "\" classname=\"" ++ (suite ++ (codes "\""
+    ++ (time_text (codes " time=\"") time (codes "\"") ++ (codes ">\n" ++ (end_element s s.ending
+    ++ (codes "<system-out>\n" ++ (verdict_groups s.names s.locals ++ codes "</system-out>\n</testcase>\n")))))))))
 
 -- all of them, each with its time, if there is one
 abbrev pub case_elements : List ℕ → List (Option (ℕ × ℕ)) → List Summary → List ℕ
 case_elements suite times ss = flat_map (λ p. case_element suite (option_and_then (λ t. t) (slice_get times p.0)) p.1) (enumerate_from 0 ss)
 
--- the suite of the name that was given, if one was, with all test cases
-abbrev pub junit_of : List ℕ → Option (List ℕ) → Times → List Summary → List ℕ
+-- the suite of the name that was given, if one was: the counts of all test cases, twice, and their times, the program's version,
+-- and all test cases
+unfoldable pub junit_of : List ℕ → Option (List ℕ) → Times → List Summary → List ℕ
 junit_of version suite times ss =
     let name = unwrap_or suite (codes "ttrun") in
-    head_text name times ss ++ (version_text version ++ (case_elements name times.cases ss ++ codes "</testsuite>\n</testsuites>\n"))
+    codes "<?xml version=\"1.0\" encoding=\"UTF-8\"?>\n<testsuites" ++ (counts_attributes ss ++ (codes ">\n<testsuite name=\"" ++ (name ++ (codes "\""
+    ++ (counts_attributes ss ++ (stamp_attribute times.begun ++ (time_text (codes " time=\"") times.whole (codes "\"")
+    ++ (codes ">\n<properties>\n<property name=\"version\" value=\"" ++ (version ++ (codes "\"/>\n</properties>\n"
+    ++ (case_elements name times.cases ss ++ codes "</testsuite>\n</testsuites>\n")))))))))))

@@ -4,40 +4,21 @@ use Rattle.tc_rules.specs.Prelude.{worse}
 use Rattle.tc_blocks.specs.declared.header.Kind.{Kind}
 use Rattle.tc_report.specs.{Blocks.case_block, Csv.{columns_text, row_line}, Output.LeavesPrefix, Report.{case_text, ending_line, tally_line, tally_of_cases}, Summary.case_summary, declared.{live.{LiveForm.LiveForm, LiveWriter.LiveWriter}, results.{CampaignEnd.CampaignEnd, Finished.Finished, Tally.Tally}}}
 
--- what is before the test cases, in this form
-abbrev pub opening_text : LiveForm → List ℕ
-opening_text LiveForm.Csv = columns_text
-opening_text form = []
-
--- what says one test case
-abbrev pub part_text : LiveForm → Finished → List ℕ
-part_text LiveForm.Text f = case_text f
-part_text LiveForm.Csv f = row_line (case_summary f)
-part_text LiveForm.History f = case_block Kind.History2 f
-part_text LiveForm.Evidence f = case_block Kind.Evidence f
-
--- what is after the test cases
-abbrev pub closing_text : LiveForm → Tally → CampaignEnd → List ℕ
-closing_text LiveForm.Text tally ending = tally_line tally ++ ending_line ending
-closing_text form tally ending = []
+-- of a form what is before the test cases, what says one of them, and what is after them
+abbrev pub form_parts : LiveForm → List ℕ × (Finished → List ℕ) × (Tally → CampaignEnd → List ℕ)
+form_parts LiveForm.Text = ([], case_text, λ tally ending. tally_line tally ++ ending_line ending)
+form_parts LiveForm.Csv = (columns_text, (λ f. row_line (case_summary f)), λ tally ending. [])
+form_parts LiveForm.History = ([], case_block Kind.History2, λ tally ending. [])
+form_parts LiveForm.Evidence = ([], case_block Kind.Evidence, λ tally ending. [])
 
 module _ {W : Type 0} (contents : W → Option (List ℕ)) where
-  -- the test case was written and counted, and the campaign was not ended for it
-  pub record IsWritten (before : LiveWriter W) (f : Finished) (after : LiveWriter W) : Type 0 where
-    pub form : after.form ≡ before.form
-    pub out : Appends (contents before.writer.now) (contents after.writer.now) (part_text before.form f)
-    pub tally : (fs : List Finished) → before.tally ≡ tally_of_cases fs → after.tally ≡ tally_of_cases (fs ++ f ∷ [])
-    pub worst : after.worst ≡ worse before.worst f.report.verdict
-    pub fault : after.fault ≡ before.fault
-
-  -- the test case was not written whole, and the fault says what is out of it; it is not counted
-  pub record IsUnwritten (before : LiveWriter W) (f : Finished) (after : LiveWriter W) : Type 0 where
-    pub form : after.form ≡ before.form
-    pub uncounted : after.tally ≡ before.tally
-    pub unjudged : after.worst ≡ before.worst
-    pub left : IsSomeAnd after.fault (LeavesPrefix (contents before.writer.now) (contents after.writer.now) (part_text before.form f))
-
-  -- what a test case does to a live writer, by whether the campaign continues
+  -- what a test case does to a live writer: it is written and counted, and the campaign continues; or a fault says what of it is
+  -- out, and it is not counted
   abbrev pub Writes : LiveWriter W → Finished → LiveWriter W → Bool → Type 0
-  Writes before f after true = IsWritten before f after
-  Writes before f after false = IsUnwritten before f after
+  Writes before f after true =
+      (after.form ≡ before.form) × Appends (contents before.writer.now) (contents after.writer.now) ((form_parts before.form).1 f)
+      × ((fs : List Finished) → before.tally ≡ tally_of_cases fs → after.tally ≡ tally_of_cases (fs ++ f ∷ []))
+      × (after.worst ≡ worse before.worst f.report.verdict) × (after.fault ≡ before.fault)
+  Writes before f after false =
+      (after.form ≡ before.form) × (after.tally ≡ before.tally) × (after.worst ≡ before.worst)
+      × IsSomeAnd after.fault (LeavesPrefix (contents before.writer.now) (contents after.writer.now) ((form_parts before.form).1 f))

@@ -45,10 +45,6 @@ finished_text shown at time f = if shown.0 && not (is_failure f) then [] else fi
 abbrev pub again_lines : Bool → List Finished → List ℕ
 again_lines only fs = if only then [] else flat_map (finished_line (codes "failed:") None) (filter is_failure fs)
 
--- what is printed after these test cases
-abbrev pub closing_lines : Bool → Option (ℕ × ℕ) → List Finished → List ℕ
-closing_lines only time fs = again_lines only fs ++ last_line time (tally_of_cases fs)
-
 -- the lines of these test cases from this place on, of each as it begins and as it finishes; the next one has begun or not
 abbrev pub AreLinesOf : Bool × List (List ℕ) → ℕ → List Finished → Bool → List ℕ → Type 0
 AreLinesOf shown at [] begun text = text ≡ (if begun then begun_text shown at else [])
@@ -60,8 +56,9 @@ AreLinesOf shown at (f ∷ fs) begun text =
 abbrev pub IsToldBy : Bool → Bool × List (List ℕ) → Option (List ℕ) → Option (List ℕ) → List Finished → Result (Unit {0}) OutFault → Type 0
 IsToldBy false shown before after fs answer = (answer ≡ Ok tt) × Keeps before after
 IsToldBy true shown before after fs answer =
-    (begun : Bool) × (text : List ℕ) × (time : Option (ℕ × ℕ)) × AreLinesOf shown 0 fs begun text
-    × OnOk answer (Appends before after (text ++ closing_lines shown.0 time fs)) × OnErr answer (AppendsPrefix before after (text ++ closing_lines shown.0 time fs))
+    (begun : Bool) × (lines : List ℕ) × (time : Option (ℕ × ℕ)) × AreLinesOf shown 0 fs begun lines
+    × OnOk answer (Appends before after (lines ++ (again_lines shown.0 fs ++ last_line time (tally_of_cases fs))))
+    × OnErr answer (AppendsPrefix before after (lines ++ (again_lines shown.0 fs ++ last_line time (tally_of_cases fs))))
 
 module _ {O E C : Type 0} (contents : E → Option (List ℕ)) where
   -- so far each of these was reported, and the lines of those that have failed are kept; or a line was not printed whole
@@ -70,7 +67,3 @@ module _ {O E C : Type 0} (contents : E → Option (List ℕ)) where
       (begun : Bool) × (text : List ℕ) × AreLinesOf (p.shown.only, p.shown.names.now) 0 fs begun text × MatchOption p.fault
       ((p.tally ≡ tally_of_cases fs) × (p.begun ≡ begun) × Appends start (contents p.writer.now) text × (p.failed.now.items ≡ again_lines p.shown.only fs))
       (λ _. AppendsPrefix start (contents p.writer.now) text)
-
-  -- one more is reported
-  abbrev pub TellsProgress : Progress O E C → Finished → Progress O E C → Type 0
-  TellsProgress before f after = (start : Option (List ℕ)) (fs : List Finished) → HasTold start fs before → HasTold start (fs ++ f ∷ []) after

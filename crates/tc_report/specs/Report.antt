@@ -1,5 +1,5 @@
 -- The text report of a campaign, with its tally and how it ended.
-use Rattle.std.specs.{Prelude.{ℕ, ◌==◌, if◌then◌else◌, List, [], ◌∷◌, ◌++◌, length, filter, codes, Bool, true, false, slice_get, unwrap_or}, Fmt.decimal, List.{enumerate_from, flat_map}}
+use Rattle.std.specs.{Prelude.{ℕ, ◌==◌, if◌then◌else◌, List, [], ◌∷◌, ◌++◌, length, filter, codes, Option, Some, None, slice_get, unwrap_or}, Fmt.decimal, List.{enumerate_from, flat_map}, Option.option_map_or}
 use Rattle.tc_rules.specs.{Prelude.{Verdict, level_of, is_parked, refusal_text, name_of, Entry, Op}, declared.{refusal.CaseError.CaseError, run_log.RunLog.RunLog}}
 use Rattle.tc_text.specs.Prelude.{op_text, reply_text}
 use Rattle.tc_report.specs.declared.results.{CampaignEnd.CampaignEnd, Finished.Finished, Results.Results, Tally.Tally}
@@ -33,15 +33,14 @@ ending_line CampaignEnd.Complete = codes "complete\n"
 ending_line (CampaignEnd.StoppedAfter name) = codes "stopped after " ++ (name ++ (10 ∷ []))
 ending_line (CampaignEnd.Aborted name why) = aborted_text name why ++ (10 ∷ [])
 
--- whether a case was refused
-abbrev pub is_aborted : CampaignEnd → Bool
-is_aborted (CampaignEnd.Aborted name why) = true
-is_aborted ending = false
+-- the case that was refused, and why, if one was
+abbrev pub aborted_case : CampaignEnd → Option (List ℕ × CaseError)
+aborted_case (CampaignEnd.Aborted name why) = Some (name, why)
+aborted_case ending = None
 
 -- the line on standard error that says so, if a case was refused
 abbrev pub abort_text : CampaignEnd → List ℕ
-abort_text (CampaignEnd.Aborted name why) = codes "ttrun: " ++ (aborted_text name why ++ (10 ∷ []))
-abort_text ending = []
+abort_text ending = option_map_or (λ (c : List ℕ × CaseError). codes "ttrun: " ++ (aborted_text c.0 c.1 ++ (10 ∷ []))) (aborted_case ending) []
 
 -- a Wake is shown as the Wait with the same target
 abbrev pub shown_op : Op → Op

@@ -1,7 +1,7 @@
 -- The exit status for test cases, by how they ended.
-use Rattle.std.specs.Prelude.{ℕ, if◌then◌else◌, List, [], codes, map}
+use Rattle.std.specs.Prelude.{ℕ, if◌then◌else◌, is_some, List, [], codes, map}
 use Rattle.tc_rules.specs.Prelude.{Verdict, name_of, refusal_text, worst}
-use Rattle.tc_report.specs.{Report.is_aborted, Summary.case_summary, declared.{results.{CampaignEnd.CampaignEnd, CaseEnd.CaseEnd, Results.Results}, summary.Summary.Summary}}
+use Rattle.tc_report.specs.{Report.aborted_case, Summary.case_summary, declared.{results.{CampaignEnd.CampaignEnd, CaseEnd.CaseEnd, Results.Results}, summary.Summary.Summary}}
 
 -- the status for a verdict
 abbrev pub verdict_status : Verdict → ℕ
@@ -12,7 +12,7 @@ verdict_status v = 0
 
 -- the status for an ending, if this is the worst verdict
 abbrev pub ending_status : CampaignEnd → Verdict → ℕ
-ending_status ending v = if is_aborted ending then 3 else verdict_status v
+ending_status ending v = if is_some (aborted_case ending) then 3 else verdict_status v
 
 -- of this end of a test case its word, the verdict that it counts as, and what JUnit says of one without a verdict
 abbrev pub ended : CaseEnd → List ℕ × Verdict × List ℕ

@@ -2,7 +2,7 @@
 use Rattle.std.specs.{Prelude.{ℕ, if◌then◌else◌, None, List, [], ◌∷◌, ◌++◌, drop, length, map, reverse, ◌≡◌}, List.{AllZip, flat_map}, Option.{option_and_then, option_map_or}}
 use Rattle.tc_rules.specs.Prelude.{Comp, Entry, created, creation, Verdict, comps, is_over, local, overall, IsOneHistory}
 use Rattle.tc_blocks.specs.{Prelude.entries_of, declared.{block.Block.Block, header.Kind.Kind, line.Line.Line}}
-use Rattle.tc_report.specs.{Blocks.{block_names, name_lines}, Cause.cause_of, InWords.namings_of, Said.said_in, Waits.waits_text, declared.{naming.{Names.Names, Naming.Naming}, results.{CampaignEnd.CampaignEnd, CaseEnd.CaseEnd, Finished.Finished, Results.Results}, said.Said.Said, summary.Summary.Summary}}
+use Rattle.tc_report.specs.{Blocks.{block_names, name_lines}, Cause.cause_of, InWords.namings_of, Report.aborted_case, Said.said_in, Waits.{says_stuck, waits_text}, declared.{cause.Cause.Cause, naming.{Names.Names, Naming.Naming}, results.{CaseEnd.CaseEnd, Finished.Finished, Results.Results}, said.Said.Said, summary.Summary.Summary}}
 
 -- the names of the components of a history by their numbers, as a Create that made one gave it, of which the main component has
 -- none; and these of behaviours
@@ -14,16 +14,14 @@ names_in history runs =
 abbrev pub no_names : Names
 no_names = record { comps = []; runs = [] }
 
--- who waits for whom in a history of n behaviours with this end, if its verdict is error
-abbrev pub waits_if : CaseEnd → Names → ℕ → List Entry → List ℕ
-waits_if (CaseEnd.Over Verdict.Error) names n history = waits_text names n history
-waits_if ending names n history = []
-
--- the test case of this name, with these local verdicts, this end and this history of n behaviours, next to which this is said
+-- the test case of this name, with these local verdicts, this end and this history of n behaviours, next to which this is said.
+-- It has who waits for whom if the call that decided its verdict was replied that no run can continue.
 abbrev pub summary_with : List ℕ → List Verdict → CaseEnd → ℕ → List Entry → Said → Summary
 summary_with name locals ending n history said =
     let names = names_in history said.names in
-    record { name = name; locals = locals; names = names; ending = ending; cause = cause_of ending said.remarks history; waits = waits_if ending names n history }
+    let cause = cause_of ending said.remarks history in
+    let waits = option_map_or (λ (c : Cause). if says_stuck c.entry.reply then waits_text names n history else []) cause [] in
+    record { name = name; locals = locals; names = names; ending = ending; cause = cause; waits = waits }
 
 -- the test case of this name and of n behaviours, with these entries and what is said next to them; it may not be over
 abbrev pub summary_of : List ℕ → ℕ → List Entry → Said → Summary
@@ -50,16 +48,11 @@ case_summary f = written_summary Kind.Evidence f
 abbrev pub bare_summary : CaseEnd → List ℕ → Summary
 bare_summary ending name = record { name = name; locals = []; names = no_names; ending = ending; cause = None; waits = [] }
 
--- the test case that has no report, if there is one
-abbrev pub aborted_summary : CampaignEnd → List Summary
-aborted_summary (CampaignEnd.Aborted name why) = bare_summary (CaseEnd.Aborted why) name ∷ []
-aborted_summary ending = []
-
 -- of a campaign of test cases with these names: each finished one, the one that has no report, and those after them, which
 -- were not run
 abbrev pub results_summaries : List (List ℕ) → Results → List Summary
 results_summaries names r =
-    let begun = map case_summary r.finished ++ aborted_summary r.ending in
+    let begun = map case_summary r.finished ++ option_map_or (λ c. bare_summary (CaseEnd.Aborted c.1) c.0 ∷ []) (aborted_case r.ending) [] in
     begun ++ map (bare_summary CaseEnd.NotRun) (drop (length begun) names)
 
 -- the report of the finished test case is one history, and the block has its name and the lines that a run writes

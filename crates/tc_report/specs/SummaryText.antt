@@ -2,7 +2,7 @@
 -- its components by their local verdicts.
 use Rattle.std.specs.{Prelude.{ℕ, ◌+◌, ◌-◌, ◌==◌, nat_lt, not, if◌then◌else◌, Option, Some, List, [], ◌∷◌, ◌++◌, codes, drop, filter, length, map, take}, Fmt.decimal, List.{enumerate_from, flat_map}, Str.bytes_eq}
 use Rattle.tc_rules.specs.Prelude.{refusal_text, is_parked, Verdict, Entry, level_of, name_of}
-use Rattle.tc_report.specs.{Cause.decided_text, InWords.{component_text, name_at, named_entry}, Report.{tally_by, tally_line}, Status.{ended, verdict_status}, declared.{cause.Cause.Cause, naming.Names.Names, results.CaseEnd.CaseEnd, summary.Summary.Summary}}
+use Rattle.tc_report.specs.{Cause.decided_text, InWords.{component_in, named_entry}, Report.{tally_by, tally_line}, Status.{ended, verdict_status}, declared.{cause.Cause.Cause, naming.Names.Names, results.CaseEnd.CaseEnd, summary.Summary.Summary}}
 
 -- how many of the test cases ended with this word
 abbrev pub ended_so : List ℕ → List Summary → ℕ
@@ -26,9 +26,9 @@ verdict_group v [] = []
 verdict_group v (t ∷ ts) = codes "  " ++ (name_of v ++ (codes ": " ++ (t ++ listed (67 - length t) ts)))
 
 -- the components by their local verdicts, the worst first, each with its name if it has one
-abbrev pub verdict_groups : List (Option (List ℕ)) → List Verdict → List ℕ
+abbrev pub verdict_groups : Names → List Verdict → List ℕ
 verdict_groups names locals =
-    flat_map (λ v. verdict_group v (map (λ p. component_text p.0 (name_at names p.0)) (filter (λ p. level_of p.1 == level_of v) (enumerate_from 0 locals))))
+    flat_map (λ v. verdict_group v (map (λ p. component_in names p.0) (filter (λ p. level_of p.1 == level_of v) (enumerate_from 0 locals))))
     (Verdict.Error ∷ Verdict.Fail ∷ Verdict.Inconc ∷ Verdict.Pass ∷ Verdict.None ∷ [])
 
 -- the last five of the calls of a run, if there are some
@@ -45,7 +45,7 @@ reason_lines s ending cause = []
 
 -- a test case: its name, how it ended and why, and its components
 unfoldable pub shown_case : Summary → List ℕ
-shown_case s = codes "\n" ++ (s.name ++ (codes ": " ++ ((ended s.ending).0 ++ (codes "\n" ++ (reason_lines s s.ending s.cause ++ verdict_groups s.names.comps s.locals)))))
+shown_case s = codes "\n" ++ (s.name ++ (codes ": " ++ ((ended s.ending).0 ++ (codes "\n" ++ (reason_lines s s.ending s.cause ++ verdict_groups s.names s.locals)))))
 
 -- the counts, and each test case that failed: that has a status other than 0
 abbrev pub summary_text : List Summary → List ℕ

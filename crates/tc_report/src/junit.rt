@@ -1,13 +1,13 @@
 //! The JUnit report.
 ghost use Rattle.std.specs.{Prelude.{◌≡◌, ◌==◌, ◌++◌, codes, filter, length, slice_get, unwrap_or, IfOk, IfErr, OnOk}, Fmt.decimal, Io.KnownBytes.Appends, List.flat_map, Option.{option_and_then, option_map_or}};
-ghost use Rattle.tc_rules.specs.Prelude.{level_of};
+ghost use Rattle.tc_rules.specs.Prelude.{level_of, name_of as spec_name};
 ghost use Rattle.tc_report.specs.{Output.LeavesPrefix, Status.ended as spec_ended, declared.summary.Summary.Summary as AnySummary};
 ghost use Rattle.tc_report.specs.Junit as spec;
 
 use crate::cause::{Cause, append_decision};
 use crate::fault::OutFault;
 use crate::naming::append_named_entries;
-use crate::output::{append_between, write_made};
+use crate::output::{append_between, append_count, write_made};
 use crate::progress::append_time;
 use crate::results::CaseEnd;
 use crate::status::{ended, verdict_status};
@@ -19,7 +19,7 @@ use jiff_fmt::temporal::DateTimePrinter;
 use std::alloc::Global;
 use std::io::Write;
 use tc_entry::{Name, NoMemory, Verdict};
-use tc_text::{append_number, append_text};
+use tc_text::append_text;
 use tc_verdict::name as name_of;
 
 fn with_status(cases: &[Summary], status: u8) -> usize
@@ -38,31 +38,14 @@ fn with_verdict(cases: &[Summary], verdict: Verdict) -> usize
     found.count()
 }
 
-#[tactic(auto, unfolding(crate::specs::Junit::attribute_text))]
-fn append_attribute(out: &mut Vec<u8>, name: &str, number: usize) -> Result<(), NoMemory>
-    ensures { OnOk result (out.new.items ≡ out.old.items ++ spec.attribute_text name.now (decimal number)) }
-{
-    append_text(out, name)?;
-    append_number(out, number as u64)?;
-    append_text(out, "\"")
-}
-
 #[tactic(auto, unfolding(crate::specs::Junit::counts_attributes))]
 fn append_counts(out: &mut Vec<u8>, cases: &[Summary]) -> Result<(), NoMemory>
     ensures { OnOk result (out.new.items ≡ out.old.items ++ spec.counts_attributes cases.now) }
 {
-    append_attribute(out, " tests=\"", cases.len())?;
-    append_attribute(out, " failures=\"", with_status(cases, 1))?;
-    append_attribute(out, " errors=\"", with_status(cases, 2))?;
-    append_attribute(out, " skipped=\"", with_verdict(cases, Verdict::None))
-}
-
-#[tactic(auto, unfolding(crate::specs::Junit::attribute_text))]
-fn append_text_attribute(out: &mut Vec<u8>, name: &str, text: &[u8]) -> Result<(), NoMemory>
-    ensures { OnOk result (out.new.items ≡ out.old.items ++ spec.attribute_text name.now text.now) }
-{
-    append_text(out, name)?;
-    out.extend_from_slice(text)?;
+    append_count(out, " tests=\"", cases.len())?;
+    append_count(out, "\" failures=\"", with_status(cases, 1))?;
+    append_count(out, "\" errors=\"", with_status(cases, 2))?;
+    append_count(out, "\" skipped=\"", with_verdict(cases, Verdict::None))?;
     append_text(out, "\"")
 }
 
@@ -86,44 +69,6 @@ fn suite_name(suite: &Option<Name>) -> &[u8]
         Some(name) => name.bytes(),
         None => b"ttrun",
     }
-}
-
-#[tactic(auto, unfolding(crate::specs::Junit::suite_attributes))]
-fn append_suite_attributes(
-    out: &mut Vec<u8>,
-    times: &Times,
-    cases: &[Summary],
-) -> Result<(), NoMemory>
-    ensures { OnOk result (out.new.items ≡ out.old.items ++ spec.suite_attributes times.now cases.now) }
-{
-    append_counts(out, cases)?;
-    append_stamp(out, times.begun)?;
-    append_time(out, " time=\"", times.whole, "\"")
-}
-
-#[tactic(auto, unfolding(crate::specs::Junit::head_text))]
-fn append_head(
-    out: &mut Vec<u8>,
-    suite: &[u8],
-    times: &Times,
-    cases: &[Summary],
-) -> Result<(), NoMemory>
-    ensures { OnOk result (out.new.items ≡ out.old.items ++ spec.head_text suite.now times.now cases.now) }
-{
-    let first = "<?xml version=\"1.0\" encoding=\"UTF-8\"?>\n<testsuites";
-    append_text(out, first)?;
-    append_counts(out, cases)?;
-    append_text_attribute(out, ">\n<testsuite name=\"", suite)?;
-    append_suite_attributes(out, times, cases)
-}
-
-#[tactic(auto, unfolding(crate::specs::Junit::version_text))]
-fn append_version(out: &mut Vec<u8>, version: &str) -> Result<(), NoMemory>
-    ensures { OnOk result (out.new.items ≡ out.old.items ++ spec.version_text version.now) }
-{
-    let first = ">\n<properties>\n<property name=\"version\" value=\"";
-    append_text_attribute(out, first, version.as_bytes())?;
-    append_text(out, "/>\n</properties>\n")
 }
 
 fn append_byte(out: &mut Vec<u8>, byte: u8) -> Result<(), NoMemory>
@@ -175,14 +120,15 @@ fn append_why(out: &mut Vec<u8>, case: &Summary, verdict: &str) -> Result<(), No
 }
 
 // Appends the element of a verdict that is worse than pass, under this tag.
-#[tactic(auto, unfolding(crate::specs::Junit::verdict_element))]
 fn append_worse(
     out: &mut Vec<u8>,
     case: &Summary,
     tag: &str,
     verdict: Verdict,
 ) -> Result<(), NoMemory>
-    ensures { OnOk result (out.new.items ≡ out.old.items ++ spec.verdict_element case.now tag.now verdict) }
+    ensures { OnOk result (out.new.items ≡ out.old.items ++ (codes "<" ++ (tag.now ++ (codes " type=\"" ++ (spec_name verdict
+        ++ (codes "\" message=\"" ++ (option_map_or (spec.cause_element case.now) case.now.cause (codes "verdict " ++ (spec_name verdict
+        ++ codes "\">\n")) ++ (codes "</" ++ (tag.now ++ codes ">\n"))))))))) }
 {
     append_between(out, "<", tag.as_bytes(), " type=\"")?;
     append_text(out, name_of(verdict))?;
@@ -218,27 +164,7 @@ fn append_end_element(out: &mut Vec<u8>, case: &Summary) -> Result<(), NoMemory>
     }
 }
 
-#[tactic(auto, unfolding(crate::specs::Junit::name_tag))]
-fn append_name_tag(out: &mut Vec<u8>, suite: &[u8], name: &Name) -> Result<(), NoMemory>
-    ensures { OnOk result (out.new.items ≡ out.old.items ++ spec.name_tag suite.now name.now) }
-{
-    append_text_attribute(out, "<testcase name=\"", name.bytes())?;
-    append_text_attribute(out, " classname=\"", suite)
-}
-
-#[tactic(auto, unfolding(crate::specs::Junit::locals_element))]
-fn append_locals_element(
-    out: &mut Vec<u8>,
-    names: &[Option<Name>],
-    locals: &[Verdict],
-) -> Result<(), NoMemory>
-    ensures { OnOk result (out.new.items ≡ out.old.items ++ spec.locals_element names.now locals.now) }
-{
-    append_text(out, "<system-out>\n")?;
-    append_locals(out, names, locals)?;
-    append_text(out, "</system-out>\n</testcase>\n")
-}
-
+#[tactic(auto, unfolding(crate::specs::Junit::case_element))]
 fn append_element(
     out: &mut Vec<u8>,
     suite: &[u8],
@@ -247,11 +173,20 @@ fn append_element(
 ) -> Result<(), NoMemory>
     ensures { OnOk result (out.new.items ≡ out.old.items ++ spec.case_element suite.now time case.now) }
 {
-    append_name_tag(out, suite, &case.name)?;
+    append_between(
+        out,
+        "<testcase name=\"",
+        case.name.bytes(),
+        "\" classname=\"",
+    )?;
+    out.extend_from_slice(suite)?;
+    append_text(out, "\"")?;
     append_time(out, " time=\"", time, "\"")?;
     append_text(out, ">\n")?;
     append_end_element(out, case)?;
-    append_locals_element(out, case.names.comps.as_slice(), case.locals.as_slice())
+    append_text(out, "<system-out>\n")?;
+    append_locals(out, &case.names, case.locals.as_slice())?;
+    append_text(out, "</system-out>\n</testcase>\n")
 }
 
 fn time_at(times: &[Option<(u64, u32)>], place: usize) -> Option<(u64, u32)>
@@ -274,18 +209,27 @@ fn append_elements(
     Ok(())
 }
 
+#[tactic(auto, unfolding(crate::specs::Junit::junit_of))]
 fn append_suite(
     out: &mut Vec<u8>,
     version: &str,
-    suite: &[u8],
+    suite: &Option<Name>,
     times: &Times,
     cases: &[Summary],
 ) -> Result<(), NoMemory>
-    ensures { OnOk result (out.new.items ≡ out.old.items ++ spec.junit_of version.now (Some suite.now) times.now cases.now) }
+    ensures { OnOk result (out.new.items ≡ out.old.items ++ spec.junit_of version.now suite.now times.now cases.now) }
 {
-    append_head(out, suite, times, cases)?;
-    append_version(out, version)?;
-    append_elements(out, suite, times.cases.as_slice(), cases)?;
+    let name = suite_name(suite);
+    let first = "<?xml version=\"1.0\" encoding=\"UTF-8\"?>\n<testsuites";
+    append_text(out, first)?;
+    append_counts(out, cases)?;
+    append_between(out, ">\n<testsuite name=\"", name, "\"")?;
+    append_counts(out, cases)?;
+    append_stamp(out, times.begun)?;
+    append_time(out, " time=\"", times.whole, "\"")?;
+    let before = ">\n<properties>\n<property name=\"version\" value=\"";
+    append_between(out, before, version.as_bytes(), "\"/>\n</properties>\n")?;
+    append_elements(out, name, times.cases.as_slice(), cases)?;
     append_text(out, "</testsuite>\n</testsuites>\n")
 }
 
@@ -301,7 +245,7 @@ pub fn junit_report(
     ensures { IfOk result (λ v. v.items ≡ spec.junit_of version.now suite.now times.now cases.now) }
 {
     let mut out = Vec::new(alloc);
-    append_suite(&mut out, version, suite_name(suite), times, cases)?;
+    append_suite(&mut out, version, suite, times, cases)?;
     Ok(out)
 }
 

@@ -2,7 +2,7 @@
 ghost use Rattle.std.specs.{Prelude.{◌≡◌, [], None, OnOk, OnErr, IfOk, IfErr}, Io.KnownBytes.Appends};
 ghost use Rattle.tc_verdict.specs.declared.verdict.Verdict.TheVariants.{None as NoVerdict};
 ghost use Rattle.tc_rules.specs.Prelude.{worse};
-ghost use Rattle.tc_report.specs.{Inside.IsOneMore, Live.Writes, Live.closing_text as spec_closing, Live.opening_text as spec_opening, Live.part_text as spec_part, Output.LeavesPrefix, Report.tally_of_cases, Status.ending_status as spec_status};
+ghost use Rattle.tc_report.specs.{Inside.IsOneMore, Live.Writes, Live.form_parts, Output.LeavesPrefix, Report.tally_of_cases, Status.ending_status as spec_status};
 
 use crate::blocks::append_block;
 use crate::fault::OutFault;
@@ -32,7 +32,7 @@ pub enum LiveForm {
 }
 
 fn opening_text(alloc: Global, form: LiveForm) -> Result<Vec<u8>, NoMemory>
-    ensures { IfOk result (λ v. v.items ≡ spec_opening form) }
+    ensures { IfOk result (λ v. v.items ≡ (form_parts form).0) }
 {
     match form {
         LiveForm::Csv => csv_header(alloc),
@@ -41,7 +41,7 @@ fn opening_text(alloc: Global, form: LiveForm) -> Result<Vec<u8>, NoMemory>
 }
 
 fn part_text(alloc: Global, form: LiveForm, case: &Finished) -> Result<Vec<u8>, NoMemory>
-    ensures { IfOk result (λ v. v.items ≡ spec_part form case.now) }
+    ensures { IfOk result (λ v. v.items ≡ (form_parts form).1 case.now) }
 {
     let mut text = Vec::new(alloc);
     match form {
@@ -59,7 +59,7 @@ fn closing_text(
     tally: &Tally,
     ending: &CampaignEnd,
 ) -> Result<Vec<u8>, NoMemory>
-    ensures { IfOk result (λ v. v.items ≡ spec_closing form tally.now ending.now) }
+    ensures { IfOk result (λ v. v.items ≡ (form_parts form).2 tally.now ending.now) }
 {
     let mut text = Vec::new(alloc);
     if form == LiveForm::Text {
@@ -110,9 +110,9 @@ impl<'a, W: Write> LiveWriter<'a, W> {
     /// Writes what is before the test cases.
     pub fn begin(&mut self) -> Result<(), OutFault>
         ensures all { OnOk result (Appends (W.contents self.old.writer.now) (W.contents self.new.writer.now)
-            (spec_opening self.old.form)) }
+            (form_parts self.old.form).0) }
         ensures part { IfErr result (LeavesPrefix (W.contents self.old.writer.now) (W.contents self.new.writer.now)
-            (spec_opening self.old.form)) }
+            (form_parts self.old.form).0) }
         ensures form { self.new.form ≡ self.old.form }
         ensures tally { self.new.tally ≡ self.old.tally }
         ensures worst { self.new.worst ≡ self.old.worst }
@@ -126,9 +126,9 @@ impl<'a, W: Write> LiveWriter<'a, W> {
     // Writes the test case, and counts it.
     fn write_case(&mut self, case: &Finished) -> Result<(), OutFault>
         ensures all { OnOk result (Appends (W.contents self.old.writer.now) (W.contents self.new.writer.now)
-            (spec_part self.old.form case.now)) }
+            ((form_parts self.old.form).1 case.now)) }
         ensures part { IfErr result (LeavesPrefix (W.contents self.old.writer.now) (W.contents self.new.writer.now)
-            (spec_part self.old.form case.now)) }
+            ((form_parts self.old.form).1 case.now)) }
         ensures form { self.new.form ≡ self.old.form }
         ensures tally { OnOk result (IsOneMore self.old.tally case.now self.new.tally) }
         ensures worst { OnOk result (self.new.worst ≡ worse self.old.worst case.now.report.verdict) }
@@ -148,9 +148,9 @@ impl<'a, W: Write> LiveWriter<'a, W> {
     /// Writes what follows the test cases, and returns the exit status for a campaign of them that ended so.
     pub fn end(&mut self, ending: &CampaignEnd) -> Result<u8, OutFault>
         ensures all { OnOk result (Appends (W.contents self.old.writer.now) (W.contents self.new.writer.now)
-            (spec_closing self.old.form self.old.tally ending.now)) }
+            ((form_parts self.old.form).2 self.old.tally ending.now)) }
         ensures part { IfErr result (LeavesPrefix (W.contents self.old.writer.now) (W.contents self.new.writer.now)
-            (spec_closing self.old.form self.old.tally ending.now)) }
+            ((form_parts self.old.form).2 self.old.tally ending.now)) }
         ensures status { IfOk result (λ status. status ≡ spec_status ending.now self.old.worst) }
         ensures fault { self.new.fault ≡ self.old.fault }
         ensures same { self.new.writer.ghost_name ≡ self.old.writer.ghost_name }

@@ -1,6 +1,6 @@
 //! How reports for people name components, runs and calls.
-ghost use Rattle.std.specs.{Prelude.{◌≡◌, ◌++◌, [], ◌==◌, IfOk, OnOk, codes, if◌then◌else◌, length, option_copied, unwrap_or}, List.flat_map};
-ghost use Rattle.tc_rules.specs.Prelude.{Comp as AnyComp, name_in as spec_name};
+ghost use Rattle.std.specs.{Prelude.{◌≡◌, ◌++◌, [], ◌==◌, IfOk, OnOk, codes, if◌then◌else◌, length, option_copied, slice_get, unwrap_or}, List.flat_map, Option.option_and_then};
+ghost use Rattle.tc_rules.specs.Prelude.{Comp as AnyComp, creation};
 ghost use Rattle.tc_report.specs.Report.{shown_op};
 ghost use Rattle.tc_report.specs.InWords as spec;
 ghost use Rattle.tc_report.specs.Summary as summaries;
@@ -50,7 +50,7 @@ pub(crate) fn bytes_or<'a>(name: Option<&'a Name>, other: &'a [u8]) -> &'a [u8]
 }
 
 fn name_at(names: &[Option<Name>], place: usize) -> Option<&Name>
-    ensures { option_copied result ≡ spec.name_at names.now place }
+    ensures { option_copied result ≡ option_and_then (λ n. n) (slice_get names.now place) }
 {
     names.get(place)?.as_ref()
 }
@@ -84,22 +84,18 @@ pub fn append_component(out: &mut Vec<u8>, comp: u64, name: Option<&Name>) -> Re
     append_numbered(out, comp, name)
 }
 
-/// Appends the component at this place among these names. If memory runs out, a part of it.
-pub(crate) fn append_place(
-    out: &mut Vec<u8>,
-    names: &[Option<Name>],
-    comp: usize,
-) -> Result<(), NoMemory>
-    ensures { OnOk result (out.new.items ≡ out.old.items ++ spec.component_text comp (spec.name_at names.now comp)) }
+/// Appends the component of this number by these names. If memory runs out, a part of it.
+pub(crate) fn append_place(out: &mut Vec<u8>, names: &Names, comp: usize) -> Result<(), NoMemory>
+    ensures { OnOk result (out.new.items ≡ out.old.items ++ spec.component_in names.now comp) }
 {
-    append_component(out, comp as u64, name_at(names, comp))
+    append_component(out, comp as u64, name_at(names.comps.as_slice(), comp))
 }
 
 /// Appends a component by these names. If memory runs out, a part of it.
 pub fn append_component_in(out: &mut Vec<u8>, names: &Names, comp: Comp) -> Result<(), NoMemory>
     ensures { OnOk result (out.new.items ≡ out.old.items ++ spec.component_in names.now comp.0) }
 {
-    append_place(out, names.comps.as_slice(), comp.0 as usize)
+    append_place(out, names, comp.0 as usize)
 }
 
 /// Appends a run, and the name of its behaviour if it has one. If memory runs out, a part of it.
@@ -235,7 +231,7 @@ pub(crate) fn append_named_entries(
 }
 
 fn name_in(op: &Op) -> Option<Name>
-    ensures { result ≡ spec_name op.now }
+    ensures { result ≡ option_and_then (λ m. m.1) (creation op.now) }
 {
     match op {
         Op::Create { name, .. } => name.as_ref().map(Name::copy),

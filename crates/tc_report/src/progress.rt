@@ -1,7 +1,7 @@
 //! What is printed about test cases as they begin and finish.
 ghost use Rattle.std.specs.{Prelude.{ℕ, List, Option, ◌≡◌, ◌+◌, ◌/◌, ◌++◌, ◌∷◌, [], true, None, IfOk, OnOk, OnErr, codes, drop}, Fmt.decimal, Io.KnownBytes.Appends, Option.option_map_or};
 ghost use Rattle.tc_stream.specs.Prelude.{AppendsPrefix};
-ghost use Rattle.tc_report.specs.{Inside.IsOneMore, Inside.OnlyPrints, Inside.after_verdict, Inside.again_by, Inside.line_by_place, Inside.rest_by, Observers.KeepsTimes, Progress.HasTold, Progress.IsToldBy, Progress.TellsProgress, Progress.again_lines, Progress.begun_text, Progress.case_place, Progress.finished_text, Progress.last_line, Progress.time_text};
+ghost use Rattle.tc_report.specs.{Inside.IsOneMore, Inside.OnlyPrints, Inside.after_verdict, Inside.again_by, Inside.line_by_place, Inside.rest_by, Observers.KeepsTimes, Progress.HasTold, Progress.IsToldBy, Progress.again_lines, Progress.begun_text, Progress.case_place, Progress.finished_text, Progress.last_line, Progress.time_text};
 
 use crate::cause::append_decision;
 use crate::fault::OutFault;
@@ -333,7 +333,8 @@ impl<'a, 'c, O: Observer, E: Write, C: Clock> Progress<'a, 'c, O, E, C> {
 
     // Reports the test case, which took this time, if lines are still printed.
     fn tell(&mut self, case: &Finished, time: Option<(u64, u32)>)
-        ensures told { TellsProgress E.contents self.old case.now self.new }
+        ensures told { (start : Option (List ℕ)) (fs : List Finished)
+            → HasTold E.contents start fs self.old → HasTold E.contents start (fs ++ case.now ∷ []) self.new }
         ensures shown { self.new.shown ≡ self.old.shown }
         ensures watch { self.new.watch ≡ self.old.watch }
         ensures others { self.new.observer ≡ self.old.observer }
@@ -388,9 +389,12 @@ impl<'a, 'c, O: Observer, E: Write, C: Clock> Progress<'a, 'c, O, E, C> {
 }
 
 impl<O: Observer, E: Write, C: Clock> Observer for Progress<'_, '_, O, E, C> {
+    ghost use Rattle.tc_report.specs.declared.results.Finished.{Finished};
+
     ghost takes = { λ before f after goes_on.
         O.takes before.observer.now f after.observer.now goes_on
-        × TellsProgress E.contents before f after
+        × ((start : Option (List ℕ)) (fs : List Finished)
+        → HasTold E.contents start fs before → HasTold E.contents start (fs ++ f ∷ []) after)
         × KeepsTimes before.watch.now.cases 1 after.watch.now.cases
         × (after.watch.ghost_name ≡ before.watch.ghost_name)
         × (after.observer.ghost_name ≡ before.observer.ghost_name)

@@ -1,9 +1,9 @@
 //! The text report, of results and of histories, with its tally and how a campaign ended.
-ghost use Rattle.std.specs.{Prelude.{◌≡◌, ◌+◌, ◌++◌, ◌∷◌, OnOk, OnErr, IfOk, IfErr, IfSome, [], codes, reverse, slice_get, unwrap_or}, Fmt.decimal, Io.KnownBytes.Appends, Io.StartsWith, List.flat_map};
+ghost use Rattle.std.specs.{Prelude.{◌≡◌, ◌+◌, ◌++◌, ◌∷◌, OnOk, OnErr, IfOk, IfErr, IfSome, [], codes, is_some, reverse, slice_get, unwrap_or}, Fmt.decimal, Io.KnownBytes.Appends, Io.StartsWith, List.flat_map};
 ghost use Rattle.tc_stream.specs.Prelude.{AppendsPrefix};
 ghost use Rattle.tc_text.specs.Prelude.{op_text, reply_text};
 ghost use Rattle.tc_rules.specs.Prelude.{comp_of, log_if, logs_below, name_of as spec_name, part};
-ghost use Rattle.tc_report.specs.{Inside.name_or_none, Output.LeavesPrefix, Replayed.replayed_text, Replayed.verdicts_closing, Report.abort_text, Report.aborted_text, Report.case_text, Report.ending_line, Report.is_aborted, Report.local_lines, Report.report_text, Report.run_text, Report.shown_entry, Report.shown_op, Report.tally_line, Report.tally_of_cases, Report.verdict_line, declared.results.CampaignEnd.TheVariants.Aborted};
+ghost use Rattle.tc_report.specs.{Inside.name_or_none, Output.LeavesPrefix, Replayed.replayed_text, Replayed.verdicts_closing, Report.abort_text, Report.aborted_case, Report.aborted_text, Report.case_text, Report.ending_line, Report.local_lines, Report.report_text, Report.run_text, Report.shown_entry, Report.shown_op, Report.tally_line, Report.tally_of_cases, Report.verdict_line, declared.results.CampaignEnd.TheVariants.Aborted};
 
 use crate::fault::OutFault;
 use crate::naming::{Naming, behaviour_of, bytes_or};
@@ -12,7 +12,7 @@ use crate::results::{CampaignEnd, Finished, Results, Tally, count_of, tally_case
 use crate::summary::Summary;
 use std::alloc::Global;
 use std::io::Write;
-use tc_entry::{Comp, Entry, Name, NoMemory, Op, Reply, Run, Verdict};
+use tc_entry::{Comp, Entry, Name, NoMemory, Op, Reply, Run, Target, Verdict};
 use tc_rules::{CaseError, RunLog, component_of};
 use tc_stream::{WriteFault, write_whole};
 use tc_text::{append_number, append_text, write_op, write_reply};
@@ -65,12 +65,34 @@ fn verdict_call_line(entry: &Entry) -> Option<&'static str>
     }
 }
 
+// What is shown of a status call of one component around its number: these entries are put together from three pieces.
+fn status_pieces(entry: &Entry) -> Option<(&'static str, Comp, &'static str)>
+    ensures { IfSome result (λ p. shown_entry entry.now ≡ p.0.now ++ (decimal p.1.0 ++ p.2.now)) }
+{
+    let (begin, target) = match entry.op {
+        Op::Running(target) => ("  running ", target),
+        Op::Alive(target) => ("  alive ", target),
+        Op::Done(target) => ("  done ", target),
+        Op::Killed(target) => ("  killed ", target),
+        _ => return None,
+    };
+    match (target, entry.reply) {
+        (Target::One(comp), Reply::Answer(true)) => Some((begin, comp, " -> true\n")),
+        (Target::One(comp), Reply::Answer(false)) => Some((begin, comp, " -> false\n")),
+        _ => None,
+    }
+}
+
 /// Appends what is shown of an entry: nothing if it was parked.
 pub(crate) fn append_entry(out: &mut Vec<u8>, entry: &Entry) -> Result<(), NoMemory>
     ensures { OnOk result (out.new.items ≡ out.old.items ++ shown_entry entry.now) }
 {
     if let Some(line) = verdict_call_line(entry) {
         return append_text(out, line);
+    }
+    if let Some((begin, comp, end)) = status_pieces(entry) {
+        append_count(out, begin, comp.0 as usize)?;
+        return append_text(out, end);
     }
     if matches!(entry.reply, Reply::Parked) {
         return Ok(());
@@ -209,7 +231,7 @@ fn write_aborted<W: Write>(writer: &mut W, name: &Name, why: CaseError) -> Resul
 /// If the campaign was aborted, writes the program's line on standard error and returns true; otherwise writes nothing
 /// and returns false. It takes no memory. If the writer fails, a prefix of the line is written.
 pub fn write_abort<W: Write>(results: &Results, writer: &mut W) -> Result<bool, WriteFault>
-    ensures answer { IfOk result (λ is. is ≡ is_aborted results.now.ending) }
+    ensures answer { IfOk result (λ is. is ≡ is_some (aborted_case results.now.ending)) }
     ensures all { OnOk result (Appends (W.contents writer.old) (W.contents writer.new) (abort_text results.now.ending)) }
     ensures part { OnErr result (AppendsPrefix (W.contents writer.old) (W.contents writer.new) (abort_text results.now.ending)) }
 {

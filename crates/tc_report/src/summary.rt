@@ -1,14 +1,14 @@
 //! What reports say of a test case.
-ghost use Rattle.std.specs.Prelude.{◌≡◌, ◌++◌, [], IfOk, OnOk, List, if◌then◌else◌, map, reverse, take};
-ghost use Rattle.tc_rules.specs.Prelude.{Entry as AnyEntry, StandsFor, is_over, overall};
-ghost use Rattle.tc_report.specs.{InWords.namings_of as spec_namings, Summary.aborted_summary, Summary.bare_summary as spec_bare, Summary.case_summary, Summary.results_summaries, Summary.summary_of, Summary.summary_with as spec_with, Summary.waits_if, declared.results.CaseEnd.TheVariants.NotRun};
+ghost use Rattle.std.specs.{Prelude.{ℕ, ◌≡◌, ◌++◌, ◌∷◌, [], IfOk, OnOk, List, if◌then◌else◌, map, reverse, take}, Option.option_map_or};
+ghost use Rattle.tc_rules.specs.{Prelude.{Entry as AnyEntry, StandsFor, is_over, overall}, declared.refusal.CaseError.CaseError as AnyError};
+ghost use Rattle.tc_report.specs.{InWords.namings_of as spec_namings, Report.aborted_case, Summary.bare_summary as spec_bare, Summary.case_summary, Summary.results_summaries, Summary.summary_of, Summary.summary_with as spec_with, Waits.says_stuck as stuck, Waits.waits_text, declared.cause.Cause.Cause as AnyCause, declared.results.CaseEnd.TheVariants.NotRun};
 
 use crate::blocks::first_names;
 use crate::cause::{Cause, cause_of};
 use crate::naming::{Names, Naming, names_in, namings_of, no_names};
 use crate::results::{CampaignEnd, CaseEnd, Finished, Results};
 use crate::said::Said;
-use crate::waits::append_waits;
+use crate::waits::{append_waits, says_stuck};
 use std::alloc::Global;
 use tc_entry::{Entry, Name, NoMemory, Sequence, Verdict};
 use tc_rules::{CaseState, locals_of};
@@ -67,15 +67,18 @@ fn copied(alloc: Global, namings: &[Naming]) -> Result<Vec<Naming>, NoMemory>
 
 fn waits_in(
     alloc: Global,
-    ending: CaseEnd,
+    cause: &Option<Cause>,
     names: &Names,
     behaviours: u16,
     history: &[Entry],
 ) -> Result<Vec<u8>, NoMemory>
-    ensures { IfOk result (λ v. v.items ≡ waits_if ending names.now behaviours history.now) }
+    ensures { IfOk result (λ v. v.items ≡ option_map_or (λ (c : AnyCause).
+        if stuck c.entry.reply then waits_text names.now behaviours history.now else []) cause.now []) }
 {
     let mut waits = Vec::new(alloc);
-    if let CaseEnd::Over(Verdict::Error) = ending {
+    if let Some(cause) = cause
+        && says_stuck(cause.entry.reply)
+    {
         append_waits(alloc, &mut waits, names, behaviours, history)?;
     }
     Ok(waits)
@@ -97,7 +100,7 @@ fn summary_with(
     let cause = cause_of(alloc, ending, said.remarks.as_slice(), history)?;
     let runs = copied(alloc, said.names.as_slice())?;
     let names = names_in(alloc, history, runs)?;
-    let waits = waits_in(alloc, ending, &names, behaviours, history)?;
+    let waits = waits_in(alloc, &cause, &names, behaviours, history)?;
     Ok(Summary {
         name: name.copy(),
         locals: Sequence::new(locals),
@@ -153,7 +156,8 @@ pub fn summary_of_case(alloc: Global, case: &Finished) -> Result<Summary, NoMemo
 }
 
 fn add_aborted(summaries: &mut Vec<Summary>, ending: &CampaignEnd) -> Result<(), NoMemory>
-    ensures { OnOk result (summaries.new.items ≡ summaries.old.items ++ aborted_summary ending.now) }
+    ensures { OnOk result (summaries.new.items ≡ summaries.old.items
+        ++ option_map_or (λ (c : List ℕ × AnyError). spec_bare (CaseEnd.Aborted c.1) c.0 ∷ []) (aborted_case ending.now) []) }
 {
     if let CampaignEnd::Aborted { name, why } = ending {
         let summary = bare_summary(*summaries.allocator(), CaseEnd::Aborted(*why), name);

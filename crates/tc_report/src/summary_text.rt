@@ -1,6 +1,6 @@
 //! The summary of test cases, a page for a person.
 ghost use Rattle.std.specs.{Prelude.{◌≡◌, ◌==◌, ◌++◌, ◌∷◌, [], IfOk, OnOk, codes, filter, if◌then◌else◌, map, take}, Fmt.decimal, List.flat_map};
-ghost use Rattle.tc_report.specs.{Cause.decided_text, Inside.IsNext, Inside.has_failed, Inside.is_shown, Inside.member_text as spec_member, Inside.members as spec_members, Inside.numbers_with};
+ghost use Rattle.tc_report.specs.{Cause.decided_text, Inside.IsNext, Inside.has_failed, Inside.is_shown, Inside.members as spec_members, Inside.numbers_with, InWords.component_in};
 ghost use Rattle.tc_report.specs.SummaryText as spec;
 
 use crate::cause::{Cause, append_decision};
@@ -11,7 +11,7 @@ use crate::results::{CaseEnd, Tally};
 use crate::status::{ended, verdict_status};
 use crate::summary::Summary;
 use std::alloc::Global;
-use tc_entry::{Entry, Name, NoMemory, Reply, Verdict};
+use tc_entry::{Entry, NoMemory, Reply, Verdict};
 use tc_text::append_text;
 use tc_verdict::name as name_of;
 
@@ -64,8 +64,8 @@ fn members(alloc: Global, locals: &[Verdict], verdict: Verdict) -> Result<Vec<us
     Ok(found.map(|(comp, _)| comp).collect(alloc)?)
 }
 
-fn member_text(alloc: Global, names: &[Option<Name>], comp: usize) -> Result<Vec<u8>, NoMemory>
-    ensures { IfOk result (λ v. v.items ≡ spec_member names.now comp) }
+fn member_text(alloc: Global, names: &Names, comp: usize) -> Result<Vec<u8>, NoMemory>
+    ensures { IfOk result (λ v. v.items ≡ component_in names.now comp) }
 {
     let mut text = Vec::new(alloc);
     append_place(&mut text, names, comp)?;
@@ -90,11 +90,11 @@ fn append_next(out: &mut Vec<u8>, room: usize, text: &[u8]) -> Result<usize, NoM
 
 fn append_member(
     out: &mut Vec<u8>,
-    names: &[Option<Name>],
+    names: &Names,
     room: usize,
     comp: usize,
 ) -> Result<usize, NoMemory>
-    ensures { IfOk result (λ left. IsNext (spec_member names.now comp) room out.old.items left out.new.items) }
+    ensures { IfOk result (λ left. IsNext (component_in names.now comp) room out.old.items left out.new.items) }
 {
     let text = member_text(*out.allocator(), names, comp)?;
     append_next(out, room, text.as_slice())
@@ -102,11 +102,11 @@ fn append_member(
 
 fn append_listed(
     out: &mut Vec<u8>,
-    names: &[Option<Name>],
+    names: &Names,
     room: usize,
     members: &[usize],
 ) -> Result<(), NoMemory>
-    ensures { OnOk result (out.new.items ≡ out.old.items ++ spec.listed room (map (spec_member names.now) members.now)) }
+    ensures { OnOk result (out.new.items ≡ out.old.items ++ spec.listed room (map (component_in names.now) members.now)) }
 {
     let mut room = room;
     let mut rest = members;
@@ -120,12 +120,12 @@ fn append_listed(
 // Appends the lines of the components with a local verdict, if there are some.
 fn append_members(
     out: &mut Vec<u8>,
-    names: &[Option<Name>],
+    names: &Names,
     verdict: Verdict,
     members: &[usize],
 ) -> Result<(), NoMemory>
     ensures { OnOk result (out.new.items ≡ out.old.items
-        ++ spec.verdict_group verdict (map (spec_member names.now) members.now)) }
+        ++ spec.verdict_group verdict (map (component_in names.now) members.now)) }
 {
     let [first, others @ ..] = members else {
         return Ok(());
@@ -138,7 +138,7 @@ fn append_members(
 
 fn append_locals_with(
     out: &mut Vec<u8>,
-    names: &[Option<Name>],
+    names: &Names,
     locals: &[Verdict],
     verdict: Verdict,
 ) -> Result<(), NoMemory>
@@ -152,7 +152,7 @@ fn append_locals_with(
 /// Appends the components by their local verdicts, the worst first.
 pub(crate) fn append_locals(
     out: &mut Vec<u8>,
-    names: &[Option<Name>],
+    names: &Names,
     locals: &[Verdict],
 ) -> Result<(), NoMemory>
     ensures { OnOk result (out.new.items ≡ out.old.items ++ spec.verdict_groups names.now locals.now) }
@@ -229,7 +229,7 @@ fn append_failed(out: &mut Vec<u8>, case: &Summary) -> Result<(), NoMemory>
     append_text(out, ended(case.ending).0)?;
     append_text(out, "\n")?;
     append_why(out, case)?;
-    append_locals(out, case.names.comps.as_slice(), case.locals.as_slice())
+    append_locals(out, &case.names, case.locals.as_slice())
 }
 
 /// The summary of these test cases, a page for a person: their counts, and then each that failed. It has what decided its

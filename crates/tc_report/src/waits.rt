@@ -1,8 +1,8 @@
 //! Which runs wait as no run can continue, and for whom.
-ghost use Rattle.std.specs.{Prelude.{◌≡◌, ◌≤◌, ◌++◌, [], IfOk, List, OnOk, if◌then◌else◌, reverse}, Option.option_map_or};
+ghost use Rattle.std.specs.{Prelude.{◌≡◌, ◌≤◌, ◌++◌, [], IfOk, List, OnOk, codes, drop, if◌then◌else◌, reverse}, Option.option_map_or};
 ghost use Rattle.tc_entry.specs.declared.limits.TheConstants.{BEHAVIOURS as MOST_BEHAVIOURS};
 ghost use Rattle.tc_rules.specs.Prelude.{Entry as AnyEntry, StandsFor, comp_of, is_active, waiting};
-ghost use Rattle.tc_report.specs.Inside.{IsBeforeStuck};
+ghost use Rattle.tc_report.specs.{InWords.target_in, Inside.IsBeforeStuck, Inside.is_cut};
 ghost use Rattle.tc_report.specs.Waits as spec;
 
 use crate::naming::{
@@ -13,7 +13,8 @@ use tc_entry::{BEHAVIOURS, Comp, Entry, Fault, NoMemory, Phase, Reply, Run, Targ
 use tc_rules::{Awaited, CaseState};
 use tc_text::append_text;
 
-fn says_stuck(reply: Reply) -> bool
+/// Whether the reply says that no run can continue.
+pub(crate) fn says_stuck(reply: Reply) -> bool
     ensures { result ≡ spec.says_stuck reply }
 {
     matches!(reply, Reply::Fault(Fault::Stuck))
@@ -41,7 +42,7 @@ fn state_before_stuck(
 }
 
 fn append_phase(out: &mut Vec<u8>, names: &Names, phase: Option<Phase>) -> Result<(), NoMemory>
-    ensures { OnOk result (out.new.items ≡ out.old.items ++ spec.phase_words names.now phase) }
+    ensures { OnOk result (out.new.items ≡ out.old.items ++ option_map_or (spec.phase_words names.now) phase []) }
 {
     match phase {
         None => Ok(()),
@@ -61,14 +62,15 @@ fn phase_of(state: &CaseState, target: Target) -> Option<Phase>
     }
 }
 
-#[tactic(auto, unfolding(crate::specs::Waits::awaited_words))]
 fn append_awaited(
     out: &mut Vec<u8>,
     names: &Names,
     awaited: Awaited,
     phase: Option<Phase>,
 ) -> Result<(), NoMemory>
-    ensures { OnOk result (out.new.items ≡ out.old.items ++ spec.awaited_words names.now awaited phase) }
+    ensures { OnOk result (out.new.items ≡ out.old.items
+        ++ ((if awaited.killed then codes " waits for killed of " else codes " waits for done of ")
+        ++ (target_in names.now awaited.target ++ (option_map_or (spec.phase_words names.now) phase [] ++ codes "\n")))) }
 {
     let words = if awaited.killed {
         " waits for killed of "
@@ -132,8 +134,8 @@ fn waits_of(
 ) -> Result<Vec<u8>, NoMemory>
     requires some { 1 ≤ behaviours }
     requires few { behaviours ≤ MOST_BEHAVIOURS }
-    ensures { IfOk result (λ v. v.items
-        ≡ option_map_or (spec.waits_after names.now behaviours) (spec.before_stuck behaviours (reverse history.now)) []) }
+    ensures { IfOk result (λ v. v.items ≡ (if is_cut (spec.played behaviours (reverse history.now))
+        then spec.waits_after names.now behaviours (drop 1 (spec.played behaviours (reverse history.now))) else [])) }
 {
     match state_before_stuck(alloc, behaviours, history)? {
         Some(state) => waits_after(alloc, names, behaviours, &state),

@@ -1,7 +1,7 @@
 -- What the table keeps next to its history determines every reply: two histories that keep the same are answered alike.
 use Rattle.std.{proofs.Common.{ℕ, ◌≡◌, ◌&&◌, ◌||◌, not, Bool, true, false, Option, Some, None, is_some, if◌then◌else◌, List, [], ◌∷◌, length, drop, refl, ap, ◌∙◌}, specs.List.{list_any, list_all}}
 use Rattle.tc_entry.specs.declared.{comp.Comp.Comp, entry.Entry.Entry, op.Op.Op, op.Target.Target, phase.Phase.Phase, reply.Reply.Reply}
-use Rattle.tc_rules.{specs.{Answers.{answer, is_active, is_run_of, plain_answer}, Inside.Words.{wake_reply, is_active_on, local_reply, waits_in_vain}, Faults.{components, fault, names, special_fault, start_fault}, History.{comp_of, comps, ptcs}, Inside.Kept.{run_of, state_of}, Local.local, Phases.{is_excused, last_run, phase}, Status.{alive, done, is_done, is_killed, is_running, killed, running}, Waiting.{holds, is_still, is_stuck, waiting}, declared.awaited.Awaited.Awaited, declared.component_state.ComponentState.ComponentState, declared.run_state.RunState.RunState}, proofs.Lemmas.Keeping.all_exist_same}
+use Rattle.tc_rules.{specs.{Answers.{answer, is_active, is_run_of, plain_answer}, Inside.Words.{is_active_on, local_reply, waits_in_vain}, Faults.{components, fault, names, special_fault, start_fault}, History.{comp_of, comps, ptcs}, Inside.Kept.{run_of, state_of}, Local.local, Phases.{is_excused, last_run, phase}, Status.{alive, done, is_done, is_killed, is_running, killed, running}, Waiting.{holds, is_still, is_stuck, waiting}, declared.awaited.Awaited.Awaited, declared.component_state.ComponentState.ComponentState, declared.run_state.RunState.RunState}, proofs.Lemmas.Keeping.all_exist_same}
 
 -- two histories of which the same is known
 pub record IsSame (p q : List Entry) : Type 0 where
@@ -118,9 +118,6 @@ module _ {p q : List Entry} where
   unfolding fault
   fault_same s n b op = rw (all_exist_same p q (names op) s.comps_same, special_same s n op)
 
-  wake_same : IsSame p q → (b : ℕ) (a : Awaited) → wake_reply p b a ≡ wake_reply q b a
-  wake_same s b a = rw (holds_same s a, stuck_same s)
-
   local_reply_same : IsSame p q → (o : Option Comp) → local_reply p o ≡ local_reply q o
   local_reply_same s None = refl
   local_reply_same s (Some c) = ap Reply.Local (local_same s c.0)
@@ -132,7 +129,7 @@ module _ {p q : List Entry} where
   plain_same s b (Op.Done t) = ap Reply.Answer (done_same s t)
   plain_same s b (Op.Killed t) = ap Reply.Answer (killed_same s t)
   plain_same s b (Op.Wait k t) = ap (λ h. if h then Reply.Matched else Reply.Parked) (holds_same s (record { killed = k; target = t }))
-  plain_same s b (Op.Wake k t) = wake_same s b (record { killed = k; target = t })
+  plain_same s b (Op.Wake k t) = rw (holds_same s (record { killed = k; target = t }), stuck_same s)
   plain_same s b Op.GetVerdict = ap (local_reply p) (comp_same s b) ∙ local_reply_same s (comp_of q b)
   plain_same s b _ = refl
 

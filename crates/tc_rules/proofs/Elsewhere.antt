@@ -2,7 +2,7 @@
 use Rattle.std.proofs.{Common.{ℕ, ◌≡◌, ◌≢◌, ◌<◌, ◌≤◌, ◌==◌, ◌&&◌, ◌||◌, not, if◌then◌else◌, Bool, true, false, Option, Some, None, List, [], ◌∷◌, length, get_or, refl, ap, sym, ◌∙◌, arith, get_or-set_other, get_or-set_same}, Math.ListN.set, Math.Bool.or-false, lemmas.Bool.Decides.nat_tests, lemmas.List.get_or_default}
 use Rattle.tc_entry.specs.{Prelude.{Verdict, Run, level_of, is_ended, is_fault, is_ok}, declared.comp.Comp.Comp, declared.entry.Entry.Entry, declared.op.Group.Group, declared.op.Op.Op, declared.reply.Reply.Reply}
 use Rattle.tc_verdict.proofs.Lemmas.Order.{worse_left}
-use Rattle.tc_rules.{specs.{History.{ends_case, halts, is_comp, is_finish, is_kill_of, is_stop_case, is_stop_of, kills, comp_of, created}, Inside.Words.{first_some, starts_on, started_run}, Inside.Step.{IsNextRun, IsSettled, next_excused, next_local, next_phase, next_state, touched, touched_by, touched_own, asks}, Local.{gives, setting}, Inside.Step.halts_from_outside, Phases.start_in, Status.is_running, Answers.answer, Inside.Kept.IsKept, Standing.{Kept, StandsFor}, declared.component_state.ComponentState.ComponentState, declared.step.Scope.Scope, declared.run_state.RunState.RunState}, proofs.{Lemmas.Deciding.{if_same, and_no}, Lemmas.Keeping.{keeps_entry, stands_by}, Runs.{caller_changed, none_started}, Settled.settled_kept}}
+use Rattle.tc_rules.{specs.{History.{ends_case, halts, is_comp, is_finish, is_kill_of, is_stop_case, is_stop_of, kills, comp_of, created}, Inside.Words.{first_some, starts_on, started_run}, Inside.Step.{IsNextRun, IsSettled, next_excused, next_local, next_phase, next_state, touched, touched_by, touched_own, asks}, Local.gives, Phases.{halts_from_outside, start_in}, Status.is_running, Answers.answer, Inside.Kept.IsKept, Standing.{Kept, StandsFor}, declared.component_state.ComponentState.ComponentState, declared.step.Scope.Scope, declared.run_state.RunState.RunState}, proofs.{Lemmas.Deciding.{if_same, and_no, gives_if, gives_nothing}, Lemmas.Keeping.{keeps_entry, stands_by}, Runs.{caller_changed, none_started}, Settled.settled_kept}}
 
 -- what is known of an operation that does not touch component c
 record Spares (own : Option Comp) (op : Op) (c : ℕ) : Type 0 where
@@ -10,7 +10,7 @@ record Spares (own : Option Comp) (op : Op) (c : ℕ) : Type 0 where
   kill : is_kill_of op c ≡ false
   start : starts_on op c ≡ None
   finish : (is_finish op && is_comp own c) ≡ false
-  sets : (if is_comp own c then setting op else []) ≡ []
+  sets : (if is_comp own c then gives op Reply.Ok else []) ≡ []
 
 abbrev touches : Scope → ℕ → Bool
 touches Scope.Nothing c = false
@@ -40,11 +40,9 @@ record Leaves (own : Option Comp) (e : Entry) (c : ℕ) : Type 0 where
   outside : halts_from_outside own e c ≡ false
   given : (if is_comp own c then gives e.op e.reply else []) ≡ []
 
-gives_by : (t : Bool) (op : Op) (reply : Reply) → is_fault reply ≡ false → (if t then setting op else []) ≡ [] → (if t then gives op reply else []) ≡ []
+gives_by : (t : Bool) (op : Op) (reply : Reply) → is_fault reply ≡ false → (if t then gives op Reply.Ok else []) ≡ [] → (if t then gives op reply else []) ≡ []
 gives_by false op reply h k = refl
-gives_by true op Reply.Ok h k = k
-gives_by true op (Reply.Fault f) h k = absurd cc
-gives_by true op _ h k = refl
+gives_by true op reply h k = gives_if op reply h k
 
 fault_ends : (ended fault case fin stop kill : Bool) → (not ended && (fault || case || fin || stop || kill)) ≡ false → ended ≡ false → fault ≡ false
 fault_ends true fault case fin stop kill h k = absurd cc
@@ -63,7 +61,7 @@ leaves_op own e c ends ended s =
     }
 
 leaves_ended : (own : Option Comp) (caller : Run) (op : Op) (reply : Reply) (c : ℕ) → is_ended reply ≡ true → Leaves own (record { caller = caller; op = op; reply = reply }) c
-leaves_ended own caller op Reply.Ended c h = record { kill = refl; start = refl; halt = refl; outside = refl; given = if_same (is_comp own c) [] }
+leaves_ended own caller op Reply.Ended c h = record { kill = refl; start = refl; halt = refl; outside = refl; given = rw (gives_nothing op Reply.Ended refl refl) (if_same (is_comp own c) []) }
 leaves_ended own caller op _ c h = absurd cc
 
 leaves_by : (ends ended : Bool) (own : Option Comp) (e : Entry) (c : ℕ) → ends_case e ≡ ends → is_ended e.reply ≡ ended →

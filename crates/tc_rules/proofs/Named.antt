@@ -1,7 +1,7 @@
 -- The names of components say nothing to the table: a history without them is answered alike.
 use Rattle.std.proofs.Common.{ℕ, ◌≡◌, ◌↔◌, Bool, Option, None, List, [], ◌∷◌, map, refl, ap, sym, subst, ◌∙◌}
 use Rattle.tc_entry.specs.declared.{entry.Entry.Entry, op.Op.Op, reply.Reply.Reply}
-use Rattle.tc_rules.{specs.{Inside.Words.is_alive_create, Answers.answer, Faults.{all_exist, fault}, History.{comp_of, comps, created, exists, halts, is_alive_type, kills, started_on}, Laws.{unnamed, unnamed_op}, Legal.IsLegal, Local.{gives, local, overall, verdicts_of}, Inside.Step.halts_from_outside, Phases.{is_excused, last_run, phase, start_in, was_halted, was_killed}, Waiting.{parks, waiting}}, proofs.Determined.{IsSame, answer_same}}
+use Rattle.tc_rules.{specs.{Inside.Words.is_alive_create, Answers.answer, Faults.{all_exist, fault}, History.{comp_of, comps, created, exists, halts, is_alive_type, kills, started_on}, Laws.{unnamed, unnamed_op}, Legal.IsLegal, Local.{gives, local, overall, verdicts_of}, Phases.halts_from_outside, Phases.{is_excused, last_run, phase, start_in, was_halted, was_killed}, Waiting.{parks, waiting}}, proofs.Determined.{IsSame, answer_same}}
 
 -- what says the same of a Create with any name says the same of the operation without its name
 ignores : {A : Type 0} (f : Op → A) → ((alive : Bool) (name : Option (List ℕ)) → f (Op.Create alive None) ≡ f (Op.Create alive name)) → (op : Op) → f (unnamed_op op) ≡ f op
@@ -82,8 +82,7 @@ waiting_same [] b = refl
 waiting_same (e ∷ past) b = rw (parks_of e.reply e.op, waiting_same past b)
 
 gives_of : (r : Reply) (op : Op) → gives (unnamed_op op) r ≡ gives op r
-gives_of Reply.Ok op = ignores (λ o. gives o Reply.Ok) (λ alive name. refl) op
-gives_of _ op = refl
+gives_of r op = ignores (λ o. gives o r) (λ alive name. refl) op
 
 verdicts_same : (past : List Entry) (c : ℕ) → verdicts_of (map unnamed past) c ≡ verdicts_of past c
 verdicts_same [] c = refl

@@ -2,7 +2,7 @@
 -- the states as they are.
 use Rattle.std.{proofs.{Common.{ℕ, ◌≡◌, ◌≢◌, ◌+◌, ◌<◌, ◌≤◌, List, length, get_or, get_or-set_other, get_or-set_same, below_more, arith, ◌∙◌, ap, sym, zero, suc, ◌==◌, ◌&&◌, ◌||◌, not, if◌then◌else◌, Bool, true, false, Option, None, [], ◌∷◌, drop, refl}, Math.ListN.{set, length-set}, lemmas.Bool.Decides.nat_tests, lemmas.List.get_or_default}, specs.List.list_all}
 use Rattle.tc_entry.specs.{Prelude.{Verdict, Run, is_ended, is_fault, is_ok}, declared.comp.Comp.Comp, declared.entry.Entry.Entry, declared.op.Group.Group, declared.op.Op.Op, declared.phase.Phase.Phase, declared.reply.Reply.Reply}
-use Rattle.tc_rules.{specs.{History.{ends_case, halts, is_comp, is_kill_of, is_stop_of, kills}, Inside.Words.first_some, Inside.States.{all_killed, none_running}, Inside.Step.{IsSettled, finds, finds_none, halted, next_excused, next_local, next_phase, next_state}, Local.{gives, setting}, Phases.start_in, Status.{is_killed, is_running}, declared.component_state.ComponentState.ComponentState}, proofs.Lemmas.Deciding.{and_left, and_no, and_right, if_same}}
+use Rattle.tc_rules.{specs.{History.{ends_case, halts, is_comp, is_kill_of, is_stop_of, kills}, Inside.Words.first_some, Inside.States.{all_killed, none_running}, Inside.Step.{IsSettled, finds, finds_none, halted, next_excused, next_local, next_phase, next_state}, Local.gives, Phases.start_in, Status.{is_killed, is_running}, declared.component_state.ComponentState.ComponentState}, proofs.Lemmas.Deciding.{and_left, and_no, and_right, gives_if, if_same}}
 
 -- one more place has F of what was there
 mapped_more : {A : Type 0} (F : ℕ → A → A) (old xs : List A) (i : ℕ) (x y e : A) → length xs ≡ length old → i < length old →
@@ -86,10 +86,9 @@ killed_is_still : (p : Phase) → is_killed p ≡ true → is_running p ≡ fals
 killed_is_still (Phase.Running r) h = absurd cc
 killed_is_still _ h = refl
 
-gives_none : (op : Op) (reply : Reply) (case fin stop kill : Bool) → setting op ≡ [] → (not (is_ended reply) && (is_fault reply || case || fin || stop || kill)) ≡ false → gives op reply ≡ []
-gives_none op Reply.Ok case fin stop kill h k = h
+gives_none : (op : Op) (reply : Reply) (case fin stop kill : Bool) → gives op Reply.Ok ≡ [] → (not (is_ended reply) && (is_fault reply || case || fin || stop || kill)) ≡ false → gives op reply ≡ []
 gives_none op (Reply.Fault f) case fin stop kill h k = absurd cc
-gives_none op _ case fin stop kill h k = refl
+gives_none op reply case fin stop kill h k = gives_if op reply refl h
 
 -- what is known of an entry that finds component c in no phase that it changes
 record Quiet (own : Option Comp) (e : Entry) (c : ℕ) (p : Phase) : Type 0 where
@@ -131,7 +130,7 @@ quiet own caller (Op.Stop Group.All) reply states c d ends none within = record 
 }
   where
     by_test : (t : Bool) → (c == 0) ≡ t → halts own (record { caller = caller; op = Op.Stop Group.All; reply = reply }) c ≡ true → is_running (get_or states c d).phase ≡ false
-    by_test true z h = let e : halts own (record { caller = caller; op = Op.Stop Group.All; reply = reply }) c ≡ false = rw (ends, z) (and_no (not (is_ended reply))) in absurd cc
+    by_test true z h = let e : halts own (record { caller = caller; op = Op.Stop Group.All; reply = reply }) c ≡ false = rw (ends, z, and_no (not (is_ended reply))) refl in absurd cc
     by_test false z h = let ne : c ≢ 0 = grind (arith, nat_tests) in none_running_at states c d none within ne
 quiet own caller (Op.Kill Group.All) reply states c d ends none within = record {
   kill = λ k. by_kill (c == 0) refl k;
@@ -145,7 +144,7 @@ quiet own caller (Op.Kill Group.All) reply states c d ends none within = record 
     by_kill false z h = let ne : c ≢ 0 = grind (arith, nat_tests) in killed_at states c d none within ne
 
     by_halt : (t : Bool) → (c == 0) ≡ t → halts own (record { caller = caller; op = Op.Kill Group.All; reply = reply }) c ≡ true → is_running (get_or states c d).phase ≡ false
-    by_halt true z h = let e : halts own (record { caller = caller; op = Op.Kill Group.All; reply = reply }) c ≡ false = rw (ends, z) (and_no (not (is_ended reply))) in absurd cc
+    by_halt true z h = let e : halts own (record { caller = caller; op = Op.Kill Group.All; reply = reply }) c ≡ false = rw (ends, z, and_no (not (is_ended reply))) refl in absurd cc
     by_halt false z h = let ne : c ≢ 0 = grind (arith, nat_tests) in killed_is_still (get_or states c d).phase (killed_at states c d none within ne)
 quiet own caller (Op.Stop (Group.One i)) reply states c d ends none within = absurd cc
 quiet own caller (Op.Kill (Group.One i)) reply states c d ends none within = absurd cc

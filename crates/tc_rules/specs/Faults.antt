@@ -1,24 +1,19 @@
 -- The dynamic errors, in the order in which they are found. The eight errors are this project's own.
-use Rattle.std.specs.{Prelude.{ℕ, ◌==◌, ◌&&◌, ◌||◌, not, nat_le, if◌then◌else◌, Bool, false, Option, Some, None, is_some, List, [], ◌∷◌, length}, List.list_all, Option.option_map_or}
+use Rattle.std.specs.{Prelude.{ℕ, ◌==◌, ◌&&◌, ◌||◌, not, nat_le, if◌then◌else◌, Bool, Option, Some, None, is_some, List, [], ◌∷◌, length}, List.list_all, Option.{option_map, option_map_or}}
 use Rattle.tc_entry.specs.declared.{comp.Comp.Comp, entry.Entry.Entry, limits.TheConstants.COMPONENTS, op.Group.Group, op.Op.Op, op.Target.Target, reply.Fault.Fault}
-use Rattle.tc_rules.specs.{History.comp_of, History.comps, History.exists, Phases.phase, Status.is_killed, Status.is_running}
-
--- a group as a target
-abbrev pub group_target : Group → Target
-group_target (Group.One c) = Target.One c
-group_target Group.All = Target.All
+use Rattle.tc_rules.specs.{History.comp_of, History.comps, History.exists, Phases.phase, Status.is_killed, Status.is_running, Waiting.awaited}
 
 -- the target of a call that has one
 abbrev pub target_of : Op → Option Target
-target_of (Op.Stop g) = Some (group_target g)
-target_of (Op.Kill g) = Some (group_target g)
+target_of (Op.Stop (Group.One c)) = Some (Target.One c)
+target_of (Op.Stop Group.All) = Some Target.All
+target_of (Op.Kill (Group.One c)) = Some (Target.One c)
+target_of (Op.Kill Group.All) = Some Target.All
 target_of (Op.Running t) = Some t
 target_of (Op.Alive t) = Some t
 target_of (Op.Done t) = Some t
 target_of (Op.Killed t) = Some t
-target_of (Op.Wait k t) = Some t
-target_of (Op.Wake k t) = Some t
-target_of _ = None
+target_of op = option_map (λ a. a.target) (awaited op)
 
 -- the component that a target names: Any and All name none
 abbrev pub target_names : Target → List Comp
@@ -57,5 +52,5 @@ special_fault n past _ = None
 unfoldable pub fault : ℕ → List Entry → ℕ → Op → Option Fault
 fault n past b op =
     if not (all_exist past (names op)) then Some Fault.NoComponent
-    else if option_map_or (λ t. length (target_names t) == 0) (target_of op) false && not (b == 0) then Some Fault.NotMain
+    else if (is_some (target_of op) && (length (names op) == 0)) && not (b == 0) then Some Fault.NotMain
     else special_fault n past op

@@ -1,13 +1,12 @@
 -- What the past entries of a test case say of its components and runs.
 -- Here and in the files next to it, `past` lists the entries so far, the newest first, and components and runs are
 -- numbers.
-use Rattle.std.specs.{Prelude.{ℕ, ◌==◌, ◌&&◌, ◌||◌, not, if◌then◌else◌, Bool, true, false, Option, Some, None, List, [], ◌∷◌, ◌++◌, drop}, List.list_any, Option.{option_and_then, option_map_or, option_or}}
+use Rattle.std.specs.{Prelude.{ℕ, ◌==◌, ◌&&◌, ◌||◌, not, if◌then◌else◌, Bool, true, false, Option, Some, None, List, [], ◌∷◌, ◌++◌, drop}, List.list_any, Option.{option_and_then, option_map, option_map_or, option_or}}
 use Rattle.tc_entry.specs.{Prelude.{Run, is_of, is_ended, is_fault, is_ok}, declared.comp.Comp.Comp, declared.entry.Entry.Entry, declared.op.Op.Op, declared.reply.Reply.Reply}
 
 -- a number is in a list
 abbrev pub is_in : ℕ → List ℕ → Bool
-is_in x [] = false
-is_in x (y ∷ ys) = (x == y) || is_in x ys
+is_in x ys = list_any (λ y. x == y) ys
 
 -- this is component c
 abbrev pub is_comp : Option Comp → ℕ → Bool
@@ -31,6 +30,10 @@ start _ = None
 -- the component on which the entry starts run b: a Start that was carried out
 abbrev pub started_on : Entry → ℕ → Option Comp
 started_on e b = if is_ok e.reply then option_and_then (λ s. if s.0.0 == b then Some s.1 else None) (start e.op) else None
+
+-- the run that the entry starts
+abbrev pub started : Entry → Option Run
+started e = if is_ok e.reply then option_map (λ s. s.0) (start e.op) else None
 
 -- the operation is the end of a behaviour
 abbrev pub is_finish : Op → Bool
@@ -87,19 +90,17 @@ ends_case e =
     not (is_ended e.reply)
     && (is_fault e.reply || is_stop_case e.op || (is_finish e.op && (e.caller.0 == 0)) || is_stop_of e.op 0 || is_kill_of e.op 0)
 
--- the entry, whose caller is on component own, halts component c
+-- the entry kills component c
+abbrev pub kills : Entry → ℕ → Bool
+kills e c = ends_case e || (not (is_ended e.reply) && is_kill_of e.op c)
+
+-- the entry, whose caller is on component own, halts component c: it kills it, or is its Stop or the end of a run on it
 abbrev pub halts : Option Comp → Entry → ℕ → Bool
-halts own e c =
-    ends_case e
-    || (not (is_ended e.reply) && ((is_finish e.op && is_comp own c) || is_stop_of e.op c || is_kill_of e.op c))
+halts own e c = kills e c || (not (is_ended e.reply) && ((is_finish e.op && is_comp own c) || is_stop_of e.op c))
 
 -- the entry ends the pass of its caller, on component own: it is replied Ended, or halts that component
 unfoldable pub ends_pass : Comp → Entry → Bool
 ends_pass own e = is_ended e.reply || halts (Some own) e own.0
-
--- the entry kills component c
-abbrev pub kills : Entry → ℕ → Bool
-kills e c = ends_case e || (not (is_ended e.reply) && is_kill_of e.op c)
 
 -- some entry ended the test case
 abbrev pub is_over : List Entry → Bool

@@ -1,8 +1,8 @@
 -- The part of a history by one run, and the merge of a history without verdict entries with the logs of its runs.
 -- `past` lists entries of the history, the newest first, and `log b` is the log of run b.
-use Rattle.std.specs.{Prelude.{ℕ, zero, suc, ◌==◌, ◌++◌, ◌∷◌, Bool, List, [], filter, reverse, ◌+◌, ◌&&◌, not, max, if◌then◌else◌, true, false, None, length}, Option.{option_map, option_map_or}}
-use Rattle.tc_entry.specs.{declared.entry.Entry.Entry, declared.op.Op.Op, Prelude.{is_ended, is_ok}}
-use Rattle.tc_rules.specs.{History.comp_of, History.start, declared.run_log.RunLog.RunLog}
+use Rattle.std.specs.{Prelude.{ℕ, zero, suc, ◌==◌, ◌++◌, ◌∷◌, Bool, List, [], filter, reverse, ◌+◌, ◌&&◌, not, max, if◌then◌else◌, true, false, length}, Option.{option_map_or}}
+use Rattle.tc_entry.specs.{declared.entry.Entry.Entry, declared.op.Op.Op, Prelude.{is_ended}}
+use Rattle.tc_rules.specs.{History.comp_of, History.started, declared.run_log.RunLog.RunLog}
 
 -- the entry is one of run b
 abbrev pub is_by : ℕ → Entry → Bool
@@ -52,12 +52,12 @@ verdict_calls_after (suc k) (e ∷ es) = verdict_calls_after (if is_other e then
 
 -- At the opening come the verdict entries that run 0's log begins with. After each entry come first those after it in
 -- its caller's log, which has as many other entries up to there, and then those that the log of the run that it starts
--- begins with. It starts one if it is a Start replied Ok.
+-- begins with.
 abbrev pub in_place : (ℕ → List Entry) → List Entry → List Entry
 in_place log [] = verdict_calls_after 0 (log 0)
 in_place log (e ∷ past) =
     in_place log past ++ (e ∷ verdict_calls_after (length (filter (is_by e.caller.0) (e ∷ past))) (log e.caller.0)
-    ++ option_map_or (λ run. verdict_calls_after 0 (log run.0)) (if is_ok e.reply then option_map (λ s. s.0) (start e.op) else None) [])
+    ++ option_map_or (λ run. verdict_calls_after 0 (log run.0)) (started e) [])
 
 -- the verdict entries replied Ended of the runs below n, in the order of their numbers
 unfoldable pub late : (ℕ → List Entry) → ℕ → List Entry

@@ -1,6 +1,6 @@
 -- What a component is doing.
 use Rattle.std.specs.{Prelude.{ℕ, ◌==◌, ◌&&◌, ◌||◌, not, if◌then◌else◌, Bool, false, Option, Some, None, is_some, List, [], ◌∷◌}, Option.{option_and_then, option_map_or, option_or}}
-use Rattle.tc_entry.specs.{Prelude.{Run, is_ok}, declared.entry.Entry.Entry, declared.phase.Phase.Phase}
+use Rattle.tc_entry.specs.{Prelude.{Run, is_ok}, declared.comp.Comp.Comp, declared.entry.Entry.Entry, declared.phase.Phase.Phase}
 use Rattle.tc_rules.specs.History.{exists, is_alive_type, comp_of, start, is_comp, is_stop_of, is_kill_of, halts, kills}
 
 -- an entry after its creation killed component c
@@ -22,14 +22,15 @@ abbrev pub was_halted : List Entry → ℕ → Bool
 was_halted [] c = false
 was_halted (e ∷ past) c = not (is_some (start_in e c)) && (halts (comp_of past e.caller.0) e c || was_halted past c)
 
--- the first entry that halted component c since its last start is a Stop or Kill by a run on another component
+-- the entry, whose caller is on component own, halts component c, as a Stop or Kill by a run on another component
+abbrev pub halts_from_outside : Option Comp → Entry → ℕ → Bool
+halts_from_outside own e c = halts own e c && (is_stop_of e.op c || is_kill_of e.op c) && not (is_comp own c)
+
+-- the first entry that halted component c since its last start halted it from outside
 abbrev pub is_excused : List Entry → ℕ → Bool
 is_excused [] c = false
 is_excused (e ∷ past) c =
-    not (is_some (start_in e c))
-    && (if was_halted past c
-    then is_excused past c
-    else halts (comp_of past e.caller.0) e c && (is_stop_of e.op c || is_kill_of e.op c) && not (is_comp (comp_of past e.caller.0) c))
+    not (is_some (start_in e c)) && (if was_halted past c then is_excused past c else halts_from_outside (comp_of past e.caller.0) e c)
 
 -- what component c is doing
 unfoldable pub phase : List Entry → ℕ → Phase

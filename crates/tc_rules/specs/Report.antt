@@ -1,7 +1,7 @@
 -- What a closed case reports: one history of one thread; and why a case was not closed, or has no report.
 use Rattle.std.specs.{Prelude.{ℕ, ◌≡◌, ◌++◌, true, None, List, [], length, reverse, map, filter, sum_by, codes}, List.range_with_len}
 use Rattle.tc_entry.specs.{Prelude.{memory_text}, declared.entry.Entry.Entry}
-use Rattle.tc_rules.specs.{History.comp_of, History.comps, History.is_over, Legal.IsAllOver, Legal.IsLegal, Local.local, Local.overall, Merge.is_other, Merge.logs_below, Merge.merge, Merge.part, declared.closed.CloseFault.CloseFault, declared.closed.Closed.Closed, declared.refusal.CaseError.CaseError}
+use Rattle.tc_rules.specs.{Faults.components, History.comp_of, History.is_over, Legal.IsAllOver, Legal.IsLegal, Local.local, Local.overall, Merge.is_other, Merge.logs_below, Merge.merge, Merge.part, declared.closed.CloseFault.CloseFault, declared.closed.Closed.Closed, declared.refusal.CaseError.CaseError}
 
 -- The report is one history of one thread. Each reply is the component table's at that point. The logs are the runs'
 -- parts of the history, which together hold each entry once, in its caller's order. Once an entry has ended the case no
@@ -22,10 +22,8 @@ pub record IsOneHistory (c : Closed) : Type 0 where
   pub over : is_over (reverse c.history) ≡ true
   -- from the first such entry on every component is killed, and every call is replied Ended
   pub none_alive : (later earlier : List Entry) → reverse c.history ≡ later ++ earlier → is_over earlier ≡ true → IsAllOver c.behaviours earlier
-  -- the components are numbered from 0 on
-  pub numbered : comps (reverse c.history) ≡ range_with_len 0 (length c.locals)
-  -- the local verdict of each component
-  pub locals : c.locals ≡ map (local (reverse c.history)) (comps (reverse c.history))
+  -- the local verdict of each component, which are numbered from 0 on
+  pub locals : c.locals ≡ map (local (reverse c.history)) (range_with_len 0 (components (reverse c.history)))
   -- the overall verdict, which is the worst of them
   pub verdict : c.verdict ≡ overall (reverse c.history)
 

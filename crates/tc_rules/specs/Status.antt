@@ -16,28 +16,27 @@ is_killed _ = false
 -- a component in this phase is done: stopped or killed
 abbrev pub is_done : Phase → Bool
 is_done Phase.Stopped = true
-is_done Phase.Killed = true
-is_done _ = false
+is_done phase = is_killed phase
 
 -- the answer for a target: this component passes the first test, any parallel one does, or all parallel ones pass the second
-abbrev pub pass : List Entry → (ℕ → Bool) → (ℕ → Bool) → Target → Bool
-pass past one each (Target.One c) = one c.0
-pass past one each Target.Any = list_any one (ptcs past)
-pass past one each Target.All = list_all each (ptcs past)
+abbrev pub by_target : List Entry → (ℕ → Bool) → (ℕ → Bool) → Target → Bool
+by_target past one each (Target.One c) = one c.0
+by_target past one each Target.Any = list_any one (ptcs past)
+by_target past one each Target.All = list_all each (ptcs past)
 
 -- the answer to running; of all, each that was ever started is running, or another component stopped or killed it
 unfoldable pub running : List Entry → Target → Bool
 running past =
-    pass past (λ c. is_running (phase past c)) (λ c. not (is_some (last_run past c)) || is_running (phase past c) || is_excused past c)
+    by_target past (λ c. is_running (phase past c)) (λ c. not (is_some (last_run past c)) || is_running (phase past c) || is_excused past c)
 
 -- the answer to alive: not killed
 unfoldable pub alive : List Entry → Target → Bool
-alive past = pass past (λ c. not (is_killed (phase past c))) (λ c. not (is_killed (phase past c)))
+alive past = by_target past (λ c. not (is_killed (phase past c))) (λ c. not (is_killed (phase past c)))
 
 -- the answer to done; of all, none is running
 unfoldable pub done : List Entry → Target → Bool
-done past = pass past (λ c. is_done (phase past c)) (λ c. not (is_running (phase past c)))
+done past = by_target past (λ c. is_done (phase past c)) (λ c. not (is_running (phase past c)))
 
 -- the answer to killed
 unfoldable pub killed : List Entry → Target → Bool
-killed past = pass past (λ c. is_killed (phase past c)) (λ c. is_killed (phase past c))
+killed past = by_target past (λ c. is_killed (phase past c)) (λ c. is_killed (phase past c))

@@ -1,7 +1,7 @@
 //! Which entry decided the verdict of a test case, and who made it.
-ghost use Rattle.std.specs.Prelude.{◌≡◌, ◌<◌, ◌↔◌, ◌++◌, ℕ, List, if◌then◌else◌, nat_lt, None, Some, IfSome, MatchOption, option_copied, reverse, length};
+ghost use Rattle.std.specs.Prelude.{◌≡◌, ◌<◌, ◌↔◌, ◌++◌, ℕ, List, if◌then◌else◌, nat_lt, None, Some, IfSome, MatchOption, option_and_then, option_copied, reverse, length};
 ghost use Rattle.tc_entry.specs.{Prelude.level_of, declared.entry.Entry.Entry};
-ghost use Rattle.tc_rules.specs.{Inside.Words.name_given, Legal.IsLegal, Local.overall};
+ghost use Rattle.tc_rules.specs.{Legal.IsLegal, Local.overall};
 ghost use Rattle.tc_rules.specs.Deciding as spec;
 ghost use Rattle.tc_rules.specs.History as histories;
 
@@ -60,7 +60,8 @@ pub fn component_of(history: &[Entry], run: Run) -> Option<Comp>
 
 /// The name that the entry gives to the component.
 fn name_given(entry: &Entry, comp: Comp) -> Option<&Name>
-    ensures { option_copied result ≡ name_given entry.now comp.0 }
+    ensures { option_copied result ≡ (if histories.is_comp (histories.created entry.now.op entry.now.reply) comp.0
+        then option_and_then (λ m. m.1) (histories.creation entry.now.op) else None) }
 {
     if !is_comp(created(&entry.op, entry.reply), comp.0) {
         return None;

@@ -3,7 +3,6 @@ ghost use Rattle.std.specs.Prelude.{◌≡◌, ◌||◌};
 ghost use Rattle.tc_rules.specs.History as history;
 ghost use Rattle.tc_rules.specs.Laws as laws;
 ghost use Rattle.tc_rules.specs.Inside.Words.{started_run};
-ghost use Rattle.tc_rules.specs.Inside.Step as step;
 ghost use Rattle.tc_rules.specs.Phases as phases;
 ghost use Rattle.tc_rules.specs.Waiting as waits;
 
@@ -95,7 +94,7 @@ pub(crate) fn halts(own: Option<Comp>, entry: &Entry, comp: u32) -> bool
 }
 
 pub(crate) fn halts_from_outside(own: Option<Comp>, entry: &Entry, comp: u32) -> bool
-    ensures { result ≡ step.halts_from_outside own entry.now comp }
+    ensures { result ≡ phases.halts_from_outside own entry.now comp }
 {
     halts(own, entry, comp)
         && (is_stop_of(&entry.op, comp) || is_kill_of(&entry.op, comp))

@@ -11,7 +11,7 @@ use Rattle.tc_report.specs.{declared.{fault.OutFault.OutFault, live.LiveForm.Liv
 use Rattle.tc_campaign.specs.Prelude.{AreBack, Outline, HasNames, outline_of, AreFinished, IsCalled, IsEnding, IsOfCase, IsRefusal as RefusesCase, IsRunTo}
 use Rattle.tc_campaign.specs.Inside.{IsReported}
 use Rattle.tc_command.specs.declared.task.RunOptions.{RunOptions}
-use Rattle.tc_answer.specs.{Prelude.{run_fault_line, IsPrintedRefusal, Streams, CaseView, scripts_of}, Inside.{IsCaseOf, names_of}, declared.outcome.Outcome.Outcome}
+use Rattle.tc_answer.specs.{Prelude.{run_fault_line, IsPrintedRefusal, Streams, CaseView, scripts_of}, Inside.IsCaseOf, declared.outcome.Outcome.Outcome}
 use Rattle.tc_run.specs.{Inside.worker_limit, Output.{live_form, of_output, results_in_form}, Run.{AreScriptsBack, IsLeft, IsRun, IsScripted, IsUnwrittenRun, RunsCases, case_names, script_outline}}
 
 count : (c : CaseView) (k : Case ScriptView) → IsCaseOf c k → vec_len k.jobs ≡ length c.1
@@ -24,7 +24,7 @@ same_outline : (c : CaseView) (k : Case ScriptView) → IsCaseOf c k → outline
 same_outline c k is =
     ap (λ n. let o : Outline = record { name = n; names = k.names.items; jobs = vec_len k.jobs } in o) is.name
     ∙ ap (λ ns. let o : Outline = record { name = c.0; names = ns; jobs = vec_len k.jobs } in o) is.names
-    ∙ ap (λ n. let o : Outline = record { name = c.0; names = names_of c.1; jobs = n } in o) (count c k is)
+    ∙ ap (λ n. let o : Outline = record { name = c.0; names = map (λ b. b.0) c.1; jobs = n } in o) (count c k is)
 
 pub even : (cs : List CaseView) (ks : List (Case ScriptView)) → AllZip IsCaseOf cs ks → All HasNames ks
 even [] [] each = All-nil HasNames

@@ -4,7 +4,7 @@ use Rattle.tc_rules.specs.{Prelude.Verdict, declared.refusal.CaseError.CaseError
 use Rattle.tc_stream.specs.Prelude.{AppendsPrefix}
 use Rattle.tc_book.specs.Prelude.{PassState}
 use Rattle.tc_exec.specs.declared.{job.Back.Back, test_case.Case.Case}
-use Rattle.tc_report.{specs.{Inside.form_text, declared.{fault.OutFault.OutFault, live.{LiveForm.LiveForm, LiveWriter.LiveWriter}, results.{CampaignEnd.CampaignEnd, Finished.Finished, Results.Results}, stopwatch.Times.Times}, Prelude.{abort_text, no_times, closing_text, opening_text, LeavesPrefix, IsToldBy, ending_status, results_status, tally_of_cases}}, proofs.Lemmas.{Pieces.{IsAt, Takes, all_at, all_written, begun, case_left, closing_left, ended_at, opening_left, status_at}, Telling.nothing_of}}
+use Rattle.tc_report.{specs.{Inside.form_text, declared.{fault.OutFault.OutFault, live.{LiveForm.LiveForm, LiveWriter.LiveWriter}, results.{CampaignEnd.CampaignEnd, Finished.Finished, Results.Results}, stopwatch.Times.Times}, Prelude.{abort_text, no_times, form_parts, LeavesPrefix, IsToldBy, ending_status, results_status, tally_of_cases}}, proofs.Lemmas.{Pieces.{IsAt, Takes, all_at, all_written, begun, case_left, closing_left, ended_at, opening_left, status_at}, Telling.nothing_of}}
 use Rattle.tc_answer.{specs.{Prelude.{case_name, Streams, IsTold}, declared.{fault.RunFault.RunFault, outcome.Outcome.Outcome}}, proofs.Lemmas.Giving.keeps_same}
 use Rattle.tc_campaign.{specs.{Prelude.{AreBack, outline_of, AreFinished, IsCalled, IsRunTo}, Inside.IsUnrun}, proofs.Lemmas.Keeping.{none_finished, unrun_run}}
 use Rattle.tc_command.specs.declared.task.{Form.Form, RunOptions.RunOptions}
@@ -109,7 +109,7 @@ module _ {B : Type 0} (outcome : B → PassState → Back → Type 0) (cases : L
         }
 
     -- what is before the test cases was not written whole, and nothing was printed
-    pub at_opening : (fault : OutFault) → streams.told ≡ streams.untold → LeavesPrefix streams.before streams.after (opening_text form) fault
+    pub at_opening : (fault : OutFault) → streams.told ≡ streams.untold → LeavesPrefix streams.before streams.after (form_parts form).0 fault
         → IsUnwrittenRun outline_of (IsCalled outcome) (AreBack outcome) cases options streams fault
     at_opening fault nothing left =
         cut_up (record { finished = []; ending = CampaignEnd.Complete }) (Ok tt) fault (none_finished outcome cases options.stop_on worker_limit)
@@ -117,7 +117,7 @@ module _ {B : Type 0} (outcome : B → PassState → Back → Type 0) (cases : L
         (opening_left form streams.before streams.after fault CampaignEnd.Complete left)
 
     module _ {W : Type 0} (contents : W → Option (List ℕ)) (before after : LiveWriter W)
-        (form_is : before.form ≡ form) (opening : Appends streams.before (contents before.writer.now) (opening_text form))
+        (form_is : before.form ≡ form) (opening : Appends streams.before (contents before.writer.now) (form_parts form).0)
         (tally : before.tally ≡ tally_of_cases []) (worst : before.worst ≡ Verdict.None)
         (finished : List Finished) (answer : Option CampaignEnd) (given : AreGiven outcome (Takes contents) cases options before after finished answer) where
       first : IsAt contents form streams.before [] before
@@ -135,13 +135,13 @@ module _ {B : Type 0} (outcome : B → PassState → Back → Type 0) (cases : L
       pub live_left : (telling : Result (Unit {0}) OutFault) (fault : OutFault)
           → IsToldBy options.progress (options.failures, case_names outline_of cases) streams.untold streams.told finished telling
           → IfNone answer (streams.after ≡ (contents after.writer.now))
-          → IfSome answer (λ e. LeavesPrefix (contents after.writer.now) streams.after (closing_text after.form after.tally e) fault)
+          → IfSome answer (λ e. LeavesPrefix (contents after.writer.now) streams.after ((form_parts after.form).2 after.tally e) fault)
           → IsUnwrittenRun outline_of (IsCalled outcome) (AreBack outcome) cases options streams fault
       live_left telling fault told cut part = go answer given cut part
         where
           go : (a : Option CampaignEnd) → AreGiven outcome (Takes contents) cases options before after finished a
               → IfNone a (streams.after ≡ (contents after.writer.now))
-              → IfSome a (λ e. LeavesPrefix (contents after.writer.now) streams.after (closing_text after.form after.tally e) fault)
+              → IfSome a (λ e. LeavesPrefix (contents after.writer.now) streams.after ((form_parts after.form).2 after.tally e) fault)
               → IsUnwrittenRun outline_of (IsCalled outcome) (AreBack outcome) cases options streams fault
           go (Some ending) given cut part =
               cut_up (record { finished = finished; ending = ending }) telling fault given.0.each told
@@ -154,7 +154,7 @@ module _ {B : Type 0} (outcome : B → PassState → Back → Type 0) (cases : L
       -- all was written, and what is due on standard error was printed
       pub live_done : (between : Option (List ℕ)) (telling : Result (Unit {0}) OutFault) (ending : CampaignEnd) (ended : Outcome)
           → IsToldBy options.progress (options.failures, case_names outline_of cases) streams.untold between finished telling → answer ≡ Some ending
-          → Appends (contents after.writer.now) streams.after (closing_text after.form after.tally ending)
+          → Appends (contents after.writer.now) streams.after ((form_parts after.form).2 after.tally ending)
           → ended.status ≡ ending_status ending after.worst
           → EndsTold between streams.told ending telling ended.told → IsRun outline_of (IsCalled outcome) (AreBack outcome) cases options streams ended
       live_done between telling ending ended told is out status line =

@@ -1,6 +1,6 @@
 //! The line for a campaign that was aborted.
-ghost use Rattle.std.specs.{Prelude.{◌≡◌, ◌++◌, IfOk, OnErr, OnOk, Result}, Io.StartsWith};
-ghost use Rattle.tc_report.specs.Prelude.{abort_text, aborted_text, is_aborted};
+ghost use Rattle.std.specs.{Prelude.{◌≡◌, ◌++◌, IfOk, OnErr, OnOk, Result, is_some}, Io.StartsWith};
+ghost use Rattle.tc_report.specs.Prelude.{abort_text, aborted_case, aborted_text};
 ghost use Rattle.tc_answer.specs.Prelude.{IsTold, said};
 ghost use Rattle.tc_run.specs.Inside.{first_fault};
 
@@ -26,7 +26,7 @@ fn append_abort(out: &mut Vec<u8>, name: &Name, why: CaseError) -> Result<(), No
 /// If the campaign was aborted, appends its line on standard error and returns true; otherwise appends nothing and
 /// returns false. If memory runs out nothing is appended.
 pub fn abort_line(results: &Results, out: &mut Vec<u8>) -> Result<bool, NoMemory>
-    ensures answer { IfOk result (λ is. is ≡ is_aborted results.now.ending) }
+    ensures answer { IfOk result (λ is. is ≡ is_some (aborted_case results.now.ending)) }
     ensures ok { OnOk result (out.new.items ≡ out.old.items ++ abort_text results.now.ending) }
     ensures err { OnErr result (out.new.items ≡ out.old.items) }
 {

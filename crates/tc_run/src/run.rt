@@ -3,7 +3,7 @@ ghost use Rattle.std.specs.{Prelude.{true, false, ◌≡◌, ◌≤◌, ◌||◌
 ghost use Rattle.tc_verdict.specs.declared.verdict.Verdict.TheVariants.{None as NoVerdict};
 ghost use Rattle.tc_answer.specs.Prelude.{case_name, held_streams};
 ghost use Rattle.tc_campaign.specs.Prelude.{AreBack, HasNames, outline_of, IsCalled, IsRunTo};
-ghost use Rattle.tc_report.specs.Prelude.{closing_text, LeavesPrefix, HasTold, IsToldBy, ending_status, tally_of_cases};
+ghost use Rattle.tc_report.specs.Prelude.{form_parts, LeavesPrefix, HasTold, IsToldBy, ending_status, tally_of_cases};
 ghost use Rattle.tc_entry.specs.declared.limits.TheConstants.{BEHAVIOURS as MOST_BEHAVIOURS};
 ghost use Rattle.tc_run.specs.{Inside.WasTold, Output.AreTimes, Output.live_form as spec_form, Run.IsRun, Run.IsUnwrittenRun, Run.case_names};
 
@@ -201,12 +201,12 @@ fn close<W: Write>(
 ) -> Result<(CampaignEnd, u8), OutFault>
     ensures ended { IfOk result (λ r. ending ≡ Some r.0) }
     ensures all { IfOk result (λ r. Appends (W.contents live.old.writer.now) (W.contents live.new.writer.now)
-        (closing_text live.old.form live.old.tally r.0)) }
+        ((form_parts live.old.form).2 live.old.tally r.0)) }
     ensures status { IfOk result (λ r. r.1 ≡ ending_status r.0 live.old.worst) }
     ensures cut { IfNone ending (live.new ≡ live.old) }
     ensures why { IfNone ending (IfSome live.old.fault (λ fault. result ≡ Err fault)) }
     ensures part { IfSome ending (λ e. IfErr result (LeavesPrefix (W.contents live.old.writer.now) (W.contents live.new.writer.now)
-        (closing_text live.old.form live.old.tally e))) }
+        ((form_parts live.old.form).2 live.old.tally e))) }
     ensures same { live.new.writer.ghost_name ≡ live.old.writer.ghost_name }
 {
     let Some(ending) = ending else {

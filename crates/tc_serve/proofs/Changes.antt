@@ -2,11 +2,15 @@
 use Rattle.std.{proofs.{Common.{ℕ, ◌≡◌, ◌∙◌, ◌<◌, ◌≤◌, ◌^◌, ◌&&◌, not, nat_lt, arith, if◌then◌else◌, Bool, true, false, is_some, Option, Some, None, MatchOption, Result, Ok, Err, List, [], ◌∷◌, refl, ap, sym, subst, ◌+◌, ◌++◌, reverse, append_assoc, add-one, length, take, drop, take_at, zero, suc}, lemmas.List.{Concat.flat_map-append, append-nil, reverse-append, take-append-drop}}, specs.{List.{AllByRecursion, flat_map}, Option.option_map_or, Result.{result_map_both, result_unwrap_or}, Io.StartsWith}}
 use Rattle.tc_rules.specs.{Prelude.{Run, Op, IsBehaviours, IsName, is_wake, overall, waiting, is_parked, wake_op}, declared.awaited.Awaited.Awaited}
 use Rattle.tc_text.specs.Prelude.{IsOp}
-use Rattle.tc_blocks.specs.{declared.line.Line.Line, Prelude.{is_met, IsSentence, end_text, with_lf, header_text, line_text, entries_of}}
-use Rattle.tc_serve.specs.{Inside.{with_line, woken_once, called}, Laws.{AllServed, asked_by}, Protocol.{AreServed, Comes, IsOrder, Played, Sent, ServiceState, after_order, finished_state, made, moved, refused, why_text, with_added_line, with_name, played_past, woken, woken_from}, declared.order.{Order.Order, Refusal.Refusal}, Serve.{block, case_header, opened_text, stand_text}}
+use Rattle.tc_blocks.specs.{declared.{header.{Header.Header, Kind.Kind}, line.Line.Line}, Prelude.{is_met, IsSentence, end_text, with_lf, header_text, line_text, entries_of}}
+use Rattle.tc_serve.specs.{Inside.{with_line, woken_from, woken_once, called}, Laws.{AllServed, asked_by}, Protocol.{AreServed, Comes, SpellsOrder, Played, Sent, ServiceState, after_order, finished_state, made, moved, refused, why_text, with_added_line, with_name, woken}, declared.order.{Order.Order, Refusal.Refusal}, Serve.{opened_text, stand_text}}
 
 abbrev pub new : List ℕ → ℕ → Played
 new name n = record { name = name; behaviours = n; lines = [] }
+
+-- what the first line of its evidence says
+abbrev pub case_header : Played → Header
+case_header p = record { kind = Kind.Evidence; name = p.name; behaviours = p.behaviours }
 
 -- the state by the test cases that were closed and the one that is open
 abbrev pub stand : List Played → Option Played → ServiceState
@@ -14,7 +18,7 @@ stand closed c = record { closed = closed; current = c }
 
 -- a client may make the call
 abbrev pub may_ask : Played → Run → Op → Bool
-may_ask p caller op = not (is_wake op) && not (nat_lt caller.0 p.behaviours && is_some (waiting (played_past p) caller.0))
+may_ask p caller op = not (is_wake op) && not (nat_lt caller.0 p.behaviours && is_some (waiting (entries_of p.lines) caller.0))
 
 -- the line, which is no entry, may be added
 abbrev pub may_add : Played → Line → Bool
@@ -59,7 +63,7 @@ named_is run name p q e = by_tests (nat_lt run.0 p.behaviours) (is_met run.0 p.l
     by_tests false b e = absurd cc
 
 pub made_is : (caller : Run) (op : Op) (p q : Played) → made caller op p ≡ Ok q → (may_ask p caller op ≡ true) × (moved p caller op ≡ q)
-made_is caller op p q e = by_tests (is_wake op) (nat_lt caller.0 p.behaviours && is_some (waiting (played_past p) caller.0)) e
+made_is caller op p q e = by_tests (is_wake op) (nat_lt caller.0 p.behaviours && is_some (waiting (entries_of p.lines) caller.0)) e
   where
     by_tests : (a b : Bool) → ◌≡◌ {A = Result Played Refusal} (if a then Err Refusal.Wake else if b then Err Refusal.Waiting else Ok (moved p caller op)) (Ok q) → ((not a && not b) ≡ true) × (moved p caller op ≡ q)
     by_tests true b e = absurd cc
@@ -80,19 +84,19 @@ module _ (closed : List Played) where
   noted p q l two is = subst (λ (x : Played). Changed (asked_by l) (stand closed (Some p)) (stand closed (Some x))) two.1 (adds closed p l two.0 is)
 
   -- by a move
-  asked : (p q : Played) (caller : Run) (op : Op) → (may_ask p caller op ≡ true) × (moved p caller op ≡ q) → (caller.0 < 2 ^ 16) × IsOp op → Changed (Order.Move caller op ∷ []) (stand closed (Some p)) (stand closed (Some q))
-  asked p q caller op two fits =
-      subst (λ (x : Played). Changed (Order.Move caller op ∷ []) (stand closed (Some p)) (stand closed (Some x))) two.1 (moves closed p caller op two.0 fits.0 fits.1)
+  asked : (p q : Played) (caller : Run) (op : Op) → (may_ask p caller op ≡ true) × (moved p caller op ≡ q) → caller.0 < 2 ^ 16 → IsOp op → Changed (Order.Move caller op ∷ []) (stand closed (Some p)) (stand closed (Some q))
+  asked p q caller op two low fits =
+      subst (λ (x : Played). Changed (Order.Move caller op ∷ []) (stand closed (Some p)) (stand closed (Some x))) two.1 (moves closed p caller op two.0 low fits)
 
-  done : (c : Option Played) (t : ServiceState) (o : Order) → IsOrder o → after_order (stand closed c) o ≡ Ok t → Changed (o ∷ []) (stand closed c) t
-  done None t (Order.Case name n) fits e = let same : stand closed (Some (new name n)) ≡ t = cc in subst (Changed _ (stand closed None)) same (opens closed name n fits.0 fits.1)
-  done None t _ fits e = absurd cc
-  done (Some p) t (Order.Case name n) fits e = absurd cc
-  done (Some p) t (Order.Named run name) fits e = became _ p p (with_name run name p) t (λ q is. noted p q (Line.Named run name) (named_is run name p q is) fits.1) e
-  done (Some p) t (Order.Move caller op) fits e = became _ p p (made caller op p) t (λ q is. asked p q caller op (made_is caller op p q is) fits) e
-  done (Some p) t (Order.Remark run sentence) fits e =
+  done : (c : Option Played) (t : ServiceState) (line : List ℕ) (o : Order) → SpellsOrder line o → after_order (stand closed c) o ≡ Ok t → Changed (o ∷ []) (stand closed c) t
+  done None t line (Order.Case name n) fits e = let same : stand closed (Some (new name n)) ≡ t = cc in subst (Changed _ (stand closed None)) same (opens closed name n fits.0 fits.1)
+  done None t line _ fits e = absurd cc
+  done (Some p) t line (Order.Case name n) fits e = absurd cc
+  done (Some p) t line (Order.Named run name) fits e = became _ p p (with_name run name p) t (λ q is. noted p q (Line.Named run name) (named_is run name p q is) fits.1) e
+  done (Some p) t line (Order.Move caller op) fits e = became _ p p (made caller op p) t (λ q is. asked p q caller op (made_is caller op p q is) fits.0 fits.1) e
+  done (Some p) t line (Order.Remark run sentence) fits e =
       became _ p p (with_added_line run (Line.Remark run sentence) p) t (λ q is. noted p q (Line.Remark run sentence) (added_is run (Line.Remark run sentence) p q is) fits.1) e
-  done (Some p) t Order.End fits e = let same : stand (p ∷ closed) None ≡ t = cc in subst (Changed _ (stand closed (Some p))) same (closes closed p)
+  done (Some p) t line Order.End fits e = let same : stand (p ∷ closed) None ≡ t = cc in subst (Changed _ (stand closed (Some p))) same (closes closed p)
 
   refused_is : (c : Option Played) (t : ServiceState) (run : Run) (why : Refusal) → refused (stand closed c) run why ≡ Ok t → Changed [] (stand closed c) t
   refused_is None t run why e = absurd cc
@@ -105,7 +109,7 @@ done_by (Ok o) = o ∷ []
 done_by (Err e) = []
 
 pub changes : (c : Result Order (Refusal × Option Run)) (ended : Bool) (line : List ℕ) (s t : ServiceState) → Comes c ended line s t → Changed (done_by c) s t
-changes (Ok o) ended line s t came = done s.closed s.current t o came.0.1 came.1
+changes (Ok o) ended line s t came = done s.closed s.current t line o came.0.1 came.1
 changes (Err (why, Some run)) ended line s t came = refused_is s.closed s.current t run why came.2
 changes (Err (why, None)) ended line s t came = subst (Changed [] s) (sym came.3) (stays s)
 
@@ -193,6 +197,10 @@ line_more l lines =
     ap (flat_map (λ x. with_lf (line_text x))) (reverse-append (l ∷ []) lines)
     ∙ (flat_map-append (λ x. with_lf (line_text x)) (reverse lines) (l ∷ []) ∙ ap (λ (x : List ℕ). lines_text lines ++ x) (append-nil (with_lf (line_text l))))
 
+-- the text of a test case that was closed
+abbrev pub block : Played → List ℕ
+block p = opened_text p ++ with_lf (end_text (overall (entries_of p.lines)))
+
 abbrev pub closed_text : List Played → List ℕ
 closed_text ps = flat_map block (reverse ps)
 
@@ -209,8 +217,8 @@ one_block ps p =
     ∙ (flat_map-append block (reverse ps) (p ∷ []) ∙ ap (λ (l : List ℕ). closed_text ps ++ l) (append-nil (block p)))
 
 -- the open test case is closed
-pub ends : (closed : List Played) (p : Played) → stand_text (stand (p ∷ closed) None) ≡ stand_text (stand closed (Some p)) ++ with_lf (end_text (overall (played_past p)))
-ends closed p = append-nil (closed_text (p ∷ closed)) ∙ (one_block closed p ∙ sym (append_assoc (closed_text closed) (opened_text p) (with_lf (end_text (overall (played_past p))))))
+pub ends : (closed : List Played) (p : Played) → stand_text (stand (p ∷ closed) None) ≡ stand_text (stand closed (Some p)) ++ with_lf (end_text (overall (entries_of p.lines)))
+ends closed p = append-nil (closed_text (p ∷ closed)) ∙ (one_block closed p ∙ sym (append_assoc (closed_text closed) (opened_text p) (with_lf (end_text (overall (entries_of p.lines))))))
 
 -- a test case is opened
 pub begins : (closed : List Played) (p : Played) → lines_text p.lines ≡ [] → stand_text (stand closed (Some p)) ≡ stand_text (stand closed None) ++ with_lf (header_text (case_header p))

@@ -3,7 +3,7 @@ use Rattle.std.{proofs.{Common.{ℕ, ◌≡◌, ◌≢◌, ◌∙◌, ◌==◌, 
 use Rattle.tc_rules.{specs.{Prelude.{Run, IsBehaviours, IsName, Comp, Entry, Op, Reply, answer, local_reply, plain_answer, comp_of, created, overall, awaited, holds, parks, waiting, is_parked, Fault, is_wake, IsLegal, wake_op}, declared.awaited.Awaited.Awaited}, proofs.Lemmas.{Deciding.{and_left, and_right}, Sound.{next, plain_if}, Stuck.and_split}}
 use Rattle.tc_text.specs.Prelude.{is_plain, IsOp, IsReply, IsTarget}
 use Rattle.tc_blocks.{specs.{Prelude.{end_text, AreEntries, IsEntry, with_lf, header_text, entries_of, is_about, is_met, IsSentence, AreBlocks, AreEvidence, AreLines, IsHeader, IsLine, block_lines, text_of_block, entry_in}, declared.{block.Block.Block, header.Kind.Kind, line.Line.Line}}, proofs.Lemmas.{Meeting.met_last, WrittenEvidence.written_evidence}}
-use Rattle.tc_serve.{specs.{Inside.{after_call, with_line, called}, Laws.{AllServed, asked_by, asked_in, asked_of}, Protocol.{AreServed, Played, Sent, ServiceState, finished_state, moved, played_past, why_text, woken}, Serve.{block, case_header, stand_text}, declared.order.{Refusal.Refusal, Order.Order}}, proofs.Changes.{IsNote, adds, all_served, all_woken, also_served, closes, closing, may_add, moves, opens, lines_text, Changed, changes, done_by, may_ask, stays}}
+use Rattle.tc_serve.{specs.{Inside.{after_call, with_line, called}, Laws.{AllServed, asked_by, asked_in, asked_of}, Protocol.{AreServed, Played, Sent, ServiceState, finished_state, moved, why_text, woken}, Serve.stand_text, declared.order.{Refusal.Refusal, Order.Order}}, proofs.Changes.{IsNote, adds, all_served, all_woken, also_served, block, case_header, closes, closing, may_add, moves, opens, lines_text, Changed, changes, done_by, may_ask, stays}}
 
 -- ---- the numbers of entries are those of their types
 
@@ -98,7 +98,7 @@ met_reverse b (l ∷ ls) = ap (λ (t : Bool). is_about b l || t) (met_reverse b 
 record IsEvident (p : Played) : Type 0 where
   name : IsName p.name
   behaviours : IsBehaviours p.behaviours
-  entries : AreEntries 2 (played_past p)
+  entries : AreEntries 2 (entries_of p.lines)
   lines : AreLines Kind.Evidence p.behaviours [] (reverse p.lines)
 
 fit_of : (p : Played) → IsEvident p → Fit p.behaviours p.lines
@@ -152,7 +152,7 @@ fit_reverse (x ∷ xs) a = rw (reverse-append (x ∷ []) xs) (fit_append (revers
 
 -- the block of a test case, whose first line is the line of this number
 abbrev block_of : ℕ → Played → Block
-block_of line p = record { header = case_header p; first_line = line; lines = reverse p.lines; verdict = overall (played_past p) }
+block_of line p = record { header = case_header p; first_line = line; lines = reverse p.lines; verdict = overall (entries_of p.lines) }
 
 -- the blocks of test cases, the first of which begins in this line
 abbrev blocks_of : ℕ → List Played → List Block
@@ -161,14 +161,14 @@ blocks_of line (p ∷ ps) = block_of line p ∷ blocks_of (line + length (block_
 
 -- the block is that of the test case
 abbrev IsBlockOf : Played → Block → Type 0
-IsBlockOf p b = (b.header ≡ case_header p) × (b.lines ≡ reverse p.lines) × (b.verdict ≡ overall (played_past p))
+IsBlockOf p b = (b.header.kind ≡ Kind.Evidence) × (b.header.name ≡ p.name) × (b.header.behaviours ≡ p.behaviours) × (b.lines ≡ reverse p.lines) × (b.verdict ≡ overall (entries_of p.lines))
 
 each_block : (line : ℕ) (ps : List Played) → AllZip IsBlockOf ps (blocks_of line ps)
 each_block line [] = tt
-each_block line (p ∷ ps) = ((refl, refl, refl), each_block (line + length (block_lines (block_of line p))) ps)
+each_block line (p ∷ ps) = ((refl, refl, refl, refl, refl), each_block (line + length (block_lines (block_of line p))) ps)
 
 block_is : (line : ℕ) (p : Played) → text_of_block (block_of line p) ≡ block p
-block_is line p = sym (append_assoc (with_lf (header_text (case_header p))) (lines_text p.lines) (with_lf (end_text (overall (played_past p)))))
+block_is line p = sym (append_assoc (with_lf (header_text (case_header p))) (lines_text p.lines) (with_lf (end_text (overall (entries_of p.lines)))))
 
 blocks_text : (line : ℕ) (ps : List Played) → flat_map text_of_block (blocks_of line ps) ≡ flat_map block ps
 blocks_text line [] = refl
@@ -285,8 +285,8 @@ IsSound p = Sound p.behaviours p.lines
 pub served_is_sound : AllServed IsSound
 served_is_sound = all_served IsSound (λ name n name_is few. record { legal = tt; wakes = tt }) (λ p l may note. note_sound p l may) (λ p caller op may low fits. made_sound p caller op may)
 
-pub served_is_legal : AllServed (λ p. IsLegal p.behaviours (played_past p))
+pub served_is_legal : AllServed (λ p. IsLegal p.behaviours (entries_of p.lines))
 served_is_legal = also_served IsSound _ (λ p so. so.legal) served_is_sound
 
-pub no_idle_wake : AllServed (λ p. NoIdleWake (played_past p))
+pub no_idle_wake : AllServed (λ p. NoIdleWake (entries_of p.lines))
 no_idle_wake = also_served IsSound _ (λ p so. so.wakes) served_is_sound

@@ -1,6 +1,6 @@
 -- Lines that come in pieces, and what is read and written of them, turn by turn.
 use Rattle.std.{proofs.{Common.{ℕ, ◌≡◌, ◌≢◌, ◌∙◌, ◌==◌, ◌||◌, ◌+◌, ◌-◌, ◌<◌, ◌≤◌, inl, inr, if◌then◌else◌, Bool, true, false, is_some, is_err, Option, Some, None, Result, Ok, Err, MatchResult, List, [], ◌∷◌, ◌++◌, codes, zero, suc, length, take, get_or, refl, ap, sym, subst, append_assoc, arith, ◌^◌, ◌↔◌, ◌⊎◌, IfErr, OnErr}, KnownBytes.{Appends-trans, Consumes-kept, Consumes-trans}, Math.Seq.take-append-add, lemmas.List.{append-nil, length-append, take-append-le, take_more}}, specs.{Fmt.decimal, Io.KnownBytes.{IsAtEnd, Appends, Consumes, Keeps}, List.list_all, Result.{result_err, result_unwrap_or}, Option.option_map_or}}
-use Rattle.tc_serve.{specs.{Inside.{AllEnded, Closes, Counts, Fails, Feeds, IsAtLine, IsBadLine, IsEnd, IsFed, Serves, StandsAs, StopsIn, TakesPiece, TellsRun, Tries, TriesLine, Hears, IsAt, IsOwn, IsTurn, IsTaken, end_told, IsNobodys}, Protocol.{Comes, IsOf, IsOrderOf, NoLf, Refuses, Sent, ServiceState, after_order, finished_state, seen, why_text}, Serve.{HasEnded, IsWhy, served, stopped, bytes_of, lines_messages, refused_line_text, worst_case, IsServiceEnd}, declared.{service.{ServeFault.ServeFault, Served.Served, Ending.Ending}, order.{Order.Order, TheConstants.LINE_BYTES, Refusal.Refusal}, server.Server.Server, serving.Serving.Serving}}, proofs.Changes.appended}
+use Rattle.tc_serve.{specs.{Inside.{Closes, Counts, Fails, Feeds, IsAtLine, IsBadLine, IsEnd, IsFed, Serves, StandsAs, StopsIn, TakesPiece, TellsRun, Tries, TriesLine, Hears, IsAt, IsOwn, IsTurn, IsTaken, end_told, IsNobodys}, Protocol.{Comes, IsOf, IsOrderOf, NoLf, Refuses, Sent, ServiceState, after_order, finished_state, seen, why_text}, Serve.{HasEnded, IsWhy, served, stopped, bytes_of, lines_messages, refused_line_text, worst_case, IsServiceEnd}, declared.{service.{ServeFault.ServeFault, Served.Served, Ending.Ending}, order.{Order.Order, TheConstants.LINE_BYTES, Refusal.Refusal}, server.Server.Server, serving.Serving.Serving}}, proofs.Changes.appended}
 use Rattle.tc_stream.specs.Prelude.{AppendsPrefix}
 use Rattle.tc_rules.specs.Prelude.{Run}
 use Rattle.tc_rules.proofs.Lemmas.Deciding.{and_left, and_right}
@@ -173,7 +173,7 @@ fed_piece bytes piece v w before out before' told fed plain kept same = record {
 -- ---- what stops it
 
 -- each line has its LF
-long_lines : (lines : List Sent) → AllEnded lines → length lines ≤ length (bytes_of lines)
+long_lines : (lines : List Sent) → list_all (λ l. l.ended) lines ≡ true → length lines ≤ length (bytes_of lines)
 long_lines [] all = omega arith
 long_lines (l ∷ before) all = by_end l.ended refl (long_lines before (and_right l.ended _ all))
   where
@@ -182,7 +182,7 @@ long_lines (l ∷ before) all = by_end l.ended refl (long_lines before (and_righ
     by_end true is so = subst (λ (t : Bool). length (l ∷ before) ≤ length (bytes_of before ++ (l.bytes ++ (if t then 10 ∷ [] else [])))) (sym is)
         (omega (arith, so, length-append (bytes_of before) (l.bytes ++ 10 ∷ []), length-append l.bytes (10 ∷ [])))
 
-pub why_line : (f : ServeFault) (line behind : List ℕ) (lines : List Sent) (s : ServiceState) (input : Option (List ℕ)) → AllEnded lines → NoLf line → IsBadLine f true line lines s → IsWhy f lines s (line ++ 10 ∷ behind) input
+pub why_line : (f : ServeFault) (line behind : List ℕ) (lines : List Sent) (s : ServiceState) (input : Option (List ℕ)) → list_all (λ l. l.ended) lines ≡ true → NoLf line → IsBadLine f true line lines s → IsWhy f lines s (line ++ 10 ∷ behind) input
 why_line (ServeFault.Line n why) line behind lines s input all plain bad = (bad.0, bad.1, line, behind, plain, inl (refl, bad.2))
 why_line ServeFault.TooLong line behind lines s input all plain bad = omega (arith, bad, long_lines lines all, length-append (bytes_of lines) (line ++ 10 ∷ behind))
 why_line ServeFault.NoMemory line behind lines s input all plain bad = tt
@@ -293,7 +293,7 @@ ends_some bytes before before' v w out written told told' fed serves =
 some_seen : (line looked : List ℕ) → looked ≡ seen line → looked ≢ [] → line ≢ []
 some_seen line looked same some = λ none. some (same ∙ (ap seen none ∙ take_none LINE_BYTES))
 
-why_last : (f : ServeFault) (line : List ℕ) (lines : List Sent) (s : ServiceState) (input : Option (List ℕ)) → IsAtEnd input → AllEnded lines → NoLf line → line ≢ [] → IsBadLine f false line lines s → IsWhy f lines s line input
+why_last : (f : ServeFault) (line : List ℕ) (lines : List Sent) (s : ServiceState) (input : Option (List ℕ)) → IsAtEnd input → list_all (λ l. l.ended) lines ≡ true → NoLf line → line ≢ [] → IsBadLine f false line lines s → IsWhy f lines s line input
 why_last (ServeFault.Line n why) line lines s input end all plain some bad = (bad.0, bad.1, line, [], plain, inr (refl, some, end, bad.2))
 why_last ServeFault.TooLong line lines s input end all plain some bad = omega (arith, bad, long_lines lines all, length-append (bytes_of lines) line)
 why_last ServeFault.NoMemory line lines s input end all plain some bad = tt

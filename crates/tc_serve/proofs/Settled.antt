@@ -2,7 +2,7 @@
 use Rattle.std.{proofs.{Common.{ℕ, ◌≡◌, ◌≢◌, ◌<◌, ◌≤◌, ◌==◌, ◌&&◌, ◌⊎◌, inl, inr, not, if◌then◌else◌, zero, suc, Bool, true, false, Option, Some, None, List, [], ◌∷◌, ◌++◌, drop, refl, ap, ap₂, sym, subst, ◌∙◌, arith}, lemmas.Bool.Decides.nat_tests}, specs.List.{list_any, list_all}}
 use Rattle.tc_rules.{specs.{Prelude.{Run, Comp, Entry, Op, Target, Phase, Fault, Reply, add_new, comp_of, comps, created, exists, phase, done, is_done, is_killed, is_running, killed, holds, is_still, is_stuck, parks, waiting, waits_in_vain, all_exist, fault, answer, answer_unless, is_active, is_active_on, local_reply, plain_answer, is_quiet, keeps_phases, IsLegal, wake_op}, declared.awaited.Awaited.Awaited}, proofs.Lemmas.{Deciding.{equal_if, self_equal}, Going.last_on_it, Kept.list_all-same, Quiet.{Quiet, no_new_fault, quiet_wakes_nobody, same_active, same_phase}, Stuck.phase_running, Sound.plain_if}}
 use Rattle.tc_blocks.specs.{declared.line.Line.Line, Prelude.{entries_of, entry_in}}
-use Rattle.tc_serve.{specs.{Inside.{after_call, wakes_nobody, with_line, called, IsSettled}, Laws.AllServed, Protocol.{Played, moved, played_past, woken, woken_from}}, proofs.{Evident.{IsSound, all_legal, made_sound, no_entry, note_sound}, Changes.{all_served, also_served}}}
+use Rattle.tc_serve.{specs.{Inside.{after_call, wakes_nobody, with_line, called, woken_from, IsSettled}, Laws.AllServed, Protocol.{Played, moved, woken}}, proofs.{Evident.{IsSound, all_legal, made_sound, no_entry, note_sound}, Changes.{all_served, also_served}}}
 
 -- ---- a call that is replied Ended changes nothing for the others
 
@@ -281,9 +281,9 @@ none_woken n lines (suc k) few settled =
     sleeps_on (Some a) is = let parked : answer n (entries_of lines) k (wake_op a) ≡ Reply.Parked = settled k a (omega (arith, few)) is in rw parked refl
 
 -- after such a call nobody is woken
-pub nobody_woken : (p : Played) (caller : Run) (op : Op) → 0 < p.behaviours → IsLegal p.behaviours (played_past p) → IsSettled p → wakes_nobody (keeps_phases op) (called p.behaviours p.lines caller op).reply ≡ true → record p { lines = after_call p caller op } ≡ moved p caller op
+pub nobody_woken : (p : Played) (caller : Run) (op : Op) → 0 < p.behaviours → IsLegal p.behaviours (entries_of p.lines) → IsSettled p → wakes_nobody (keeps_phases op) (called p.behaviours p.lines caller op).reply ≡ true → record p { lines = after_call p caller op } ≡ moved p caller op
 nobody_woken p caller op some legal settled nobody =
-    let none = none_woken p.behaviours (after_call p caller op) p.behaviours (omega arith) (still_settled p.behaviours (played_past p) caller op some legal settled nobody) in
+    let none = none_woken p.behaviours (after_call p caller op) p.behaviours (omega arith) (still_settled p.behaviours (entries_of p.lines) caller op some legal settled nobody) in
     ap (λ (ls : List Line). record p { lines = ls }) (sym none)
 
 -- ---- all that is served
@@ -291,12 +291,12 @@ nobody_woken p caller op some legal settled nobody =
 pub new_settled : (name : List ℕ) (n : ℕ) → IsSettled (record { name = name; behaviours = n; lines = [] })
 new_settled name n b a less waits = never_some a (answer n [] b (wake_op a) ≡ Reply.Parked) waits
 
-pub moved_settled : (p : Played) (caller : Run) (op : Op) → IsLegal p.behaviours (played_past p) → IsSettled (moved p caller op)
+pub moved_settled : (p : Played) (caller : Run) (op : Op) → IsLegal p.behaviours (entries_of p.lines) → IsSettled (moved p caller op)
 moved_settled p caller op legal b a less waits = pass_all p.behaviours (after_call p caller op) p.behaviours (omega (arith, less)) (refl, legal) b a less waits
 
 pub noted_settled : (p : Played) (l : Line) → entry_in l ≡ [] → IsSettled p → IsSettled (with_line p l)
 noted_settled p l none so =
-    let same : played_past p ≡ played_past (with_line p l) = sym (ap (λ (es : List Entry). es ++ played_past p) none) in
+    let same : entries_of p.lines ≡ entries_of (l ∷ p.lines) = sym (ap (λ (es : List Entry). es ++ entries_of p.lines) none) in
     subst (λ (es : List Entry). (b : ℕ) (a : Awaited) → b < p.behaviours → waiting es b ≡ Some a → answer p.behaviours es b (wake_op a) ≡ Reply.Parked) same so
 
 both : AllServed (λ p. IsSound p × IsSettled p)

@@ -1,7 +1,7 @@
 -- Runs that sleep, and how they are woken.
 use Rattle.std.proofs.Common.{ℕ, ◌≡◌, ◌≢◌, ◌∙◌, ◌∷◌, ◌+◌, ◌-◌, ◌==◌, ◌<◌, ◌≤◌, zero, suc, if◌then◌else◌, Bool, true, false, Some, None, List, refl, ap, sym, subst, arith}
 use Rattle.tc_rules.{specs.{Prelude.{Entry, Op, Reply, Run, parks, waiting, is_parked, answer, IsReplyOf, wake_op}, declared.awaited.Awaited.Awaited}, proofs.Lemmas.Deciding.equal_if}
-use Rattle.tc_serve.{specs.{Inside.{AreAwake, Becomes, Holds, IsCalled, IsOpen, after_call, woken_once, called}, Protocol.{Played, played_past, woken, woken_from}, declared.open_case.OpenCase.OpenCase}, proofs.Changes.woken_next}
+use Rattle.tc_serve.{specs.{Inside.{AreAwake, Becomes, Holds, IsCalled, IsOpen, after_call, woken_from, woken_once, called}, Protocol.{Played, woken}, declared.open_case.OpenCase.OpenCase}, proofs.Changes.woken_next}
 use Rattle.tc_blocks.specs.{declared.line.Line.Line, Prelude.entries_of}
 
 -- ---- what a call does to who sleeps
@@ -33,7 +33,7 @@ called_on v w x caller op reply out written call state met more few goes p close
   is = record {
     kept = rw (state, met) (call.kept p holds.is.kept);
     few = few p holds.is;
-    awake = awake_on p.behaviours x.waited (played_past p) (called p.behaviours p.lines caller op) (awake_from p.behaviours v.waited x.waited (played_past p) more holds.is.awake)
+    awake = awake_on p.behaviours x.waited (entries_of p.lines) (called p.behaviours p.lines caller op) (awake_from p.behaviours v.waited x.waited (entries_of p.lines) more holds.is.awake)
         (λ from less. goes_if op _ (ap is_parked (sym (call.replied p holds.is.kept)) ∙ goes p holds.is from less));
   };
   text = call.text p closed before holds.is.kept holds.text;
@@ -41,18 +41,18 @@ called_on v w x caller op reply out written call state met more few goes p close
 
 -- ---- one run
 
-pub wakes_up : (o w : OpenCase) (run : Run) (a : Awaited) (reply given : Reply) (out written : List ℕ) → ((p : Played) → IsOpen o p → Some a ≡ waiting (played_past p) run.0) → IsReplyOf o.state run (wake_op a) reply → is_parked reply ≡ false →
+pub wakes_up : (o w : OpenCase) (run : Run) (a : Awaited) (reply given : Reply) (out written : List ℕ) → ((p : Played) → IsOpen o p → Some a ≡ waiting (entries_of p.lines) run.0) → IsReplyOf o.state run (wake_op a) reply → is_parked reply ≡ false →
     IsCalled run (wake_op a) given o w out written → Becomes (λ p. record p { lines = woken_once p.behaviours p.lines run.0 }) o w out written
 wakes_up o w run a reply given out written waits replied goes call p closed before holds =
-    let awake : is_parked (answer p.behaviours (played_past p) run.0 (wake_op a)) ≡ false = ap is_parked (sym (answered p holds.is)) ∙ goes in
+    let awake : is_parked (answer p.behaviours (entries_of p.lines) run.0 (wake_op a)) ≡ false = ap is_parked (sym (answered p holds.is)) ∙ goes in
     let once : after_call p run (wake_op a) ≡ woken_once p.behaviours p.lines run.0 =
     sym (ap (woken_from p.behaviours p.lines run.0) (sym (waits p holds.is)) ∙ ap (λ (t : Bool). if t then p.lines else after_call p run (wake_op a)) awake) in
     subst (λ (ls : List Line). Holds w (record p { lines = ls }) closed before written) once
     (called_on o w w run (wake_op a) given out written call refl refl (let same = call.same in omega (arith, same)) (λ q is. let same = call.same in let few = is.few in omega (arith, same, few))
     (λ q is from less. ap is_parked (call.replied q is.kept ∙ sym (answered q is)) ∙ goes) p closed before holds)
   where
-    answered : (q : Played) → IsOpen o q → reply ≡ answer q.behaviours (played_past q) run.0 (wake_op a)
-    answered q is = replied (played_past q) is.kept.stands ∙ ap (λ (n : ℕ). answer n (played_past q) run.0 (wake_op a)) is.kept.behaviours
+    answered : (q : Played) → IsOpen o q → reply ≡ answer q.behaviours (entries_of q.lines) run.0 (wake_op a)
+    answered q is = replied (entries_of q.lines) is.kept.stands ∙ ap (λ (n : ℕ). answer n (entries_of q.lines) run.0 (wake_op a)) is.kept.behaviours
 
 -- ---- one after the other
 

@@ -1,8 +1,8 @@
 -- What a line tries, and the calls that it makes.
 use Rattle.std.{proofs.{Common.{ℕ, ◌≡◌, ◌≢◌, ◌∙◌, ◌<◌, ◌^◌, if◌then◌else◌, Bool, true, false, is_some, not, inl, inr, Option, Some, None, Result, Ok, Err, is_err, MatchResult, List, [], ◌∷◌, ◌++◌, refl, ap, sym, subst, ◌==◌, ◌||◌, append_assoc, arith}}, specs.{Option.option_map_or, Result.{result_map_both, result_err}}}
 use Rattle.tc_rules.{specs.{Prelude.{Comp, Run, Verdict, worse, overall, Entry, Op, Reply, answer, IsReplyOf, Kept, StandsFor, TakesIn, keeps_phases, IsLegal, started_run}}, proofs.Lemmas.Standing.legal_for}
-use Rattle.tc_blocks.specs.{Prelude.{end_text, with_lf, header_text, entry_in, is_met, line_text, starts, AreMet}, declared.{line.Line.Line, met.MetRuns.MetRuns}}
-use Rattle.tc_serve.{specs.{Inside.{Changes, IsCurrent, IsOpen, Rests, StandsAs, TellsRun, Tries, TriesLine, with_line, AreAwake, Becomes, Holds, IsCalled, IsKept, IsText, Moves, after_call, entry, wakes_nobody, called, counted}, Protocol.{IsOf, IsOrder, IsOrderOf, IsWhyNothing, Played, ServiceState, after_order, order_text, played_past, refused, with_open, made, moved, woken}, Serve.{case_header, stand_text}, declared.{open_case.OpenCase.OpenCase, order.{Order.Order, Refusal.Refusal}, server.Server.Server}}, proofs.{Changes.{appended, begins, made_is, ends, grows, line_more}, Settled.{new_settled, moved_settled, nobody_woken, noted_settled}}}
+use Rattle.tc_blocks.specs.{Prelude.{end_text, entries_of, with_lf, header_text, entry_in, is_met, line_text, starts, AreMet}, declared.{line.Line.Line, met.MetRuns.MetRuns}}
+use Rattle.tc_serve.{specs.{Inside.{Changes, IsCurrent, IsOpen, Rests, StandsAs, TellsRun, Tries, TriesLine, with_line, AreAwake, Becomes, Holds, IsCalled, IsKept, IsText, Moves, after_call, entry, wakes_nobody, called, counted}, Protocol.{IsOf, IsOrderOf, IsWhyNothing, Played, ServiceState, after_order, SpellsOrder, refused, with_open, made, moved, woken}, Serve.stand_text, declared.{open_case.OpenCase.OpenCase, order.{Order.Order, Refusal.Refusal}, server.Server.Server}}, proofs.{Changes.{appended, begins, case_header, made_is, ends, grows, line_more}, Settled.{new_settled, moved_settled, nobody_woken, noted_settled}}}
 
 abbrev pub server : Option OpenCase → Verdict → Server
 server c w = record { current = c; worst = w }
@@ -92,7 +92,7 @@ ended_with s p = record { closed = p ∷ s.closed; current = None }
 abbrev ending : ServiceState → Option Played → Result ServiceState Refusal
 ending s c = option_map_or (λ p. Ok (ended_with s p)) c (Err Refusal.NoCase)
 
-pub closing : (v : Server) (held : OpenCase) (left : Option OpenCase) (own all : Verdict) (out written : List ℕ) → v.current ≡ Some held → left ≡ None → ((p : Played) → IsOpen held p → own ≡ overall (played_past p)) →
+pub closing : (v : Server) (held : OpenCase) (left : Option OpenCase) (own all : Verdict) (out written : List ℕ) → v.current ≡ Some held → left ≡ None → ((p : Played) → IsOpen held p → own ≡ overall (entries_of p.lines)) →
     ((p : Played) → IsOpen held p → all ≡ worse v.worst (counted p)) → written ≡ out ++ with_lf (end_text own) → Tries (λ s. after_order s Order.End) None v (server left all) out written
 closing v held left own all out written is none owns alls appends s before stands = by_current s.current refl (open_is v (Some held) s s.current before out is stands refl)
   where
@@ -111,7 +111,7 @@ closing v held left own all out written is none owns alls appends s before stand
             current = subst (λ (c : Option OpenCase). IsCurrent c None) (sym none) tt;
             worst = alls p kept.opened ∙ ap (λ (w : Verdict). worse w (counted p)) stands.worst;
             text = appended before out written (stand_text s) _ _ stands.text (appends ∙ ap (λ (w : Verdict). out ++ with_lf (end_text w)) (owns p kept.opened))
-                (ends s.closed p ∙ ap (λ (l : List ℕ). l ++ with_lf (end_text (overall (played_past p)))) (sym (text_is s (Some p) current)));
+                (ends s.closed p ∙ ap (λ (l : List ℕ). l ++ with_lf (end_text (overall (entries_of p.lines)))) (sym (text_is s (Some p) current)));
           },
         )
 
@@ -132,13 +132,13 @@ module _ (A : ServiceState → Type 0) (B : Type 0) where
       subst (λ (x : Refusal). (◌≡◌ {A = Result ServiceState Refusal} (Err e) (Err x)) × B) same (refl, so.1)
 
 -- the line asks for this, which is tried
-pub asked_by : (line : List ℕ) (o : Order) (why : Option Refusal) (v w : Server) (out written : List ℕ) → IsOrder o → line ≡ order_text o → Tries (λ s. after_order s o) why v w out written → TriesLine true line why v w out written
-asked_by line o None v w out written fits spelled tries = λ s before stands.
+pub asked_by : (line : List ℕ) (o : Order) (why : Option Refusal) (v w : Server) (out written : List ℕ) → SpellsOrder line o → Tries (λ s. after_order s o) why v w out written → TriesLine true line why v w out written
+asked_by line o None v w out written spelled tries = λ s before stands.
     let so = was_done (λ t. StandsAs w t before written) (StandsAs w s before written) (after_order s o) (tries s before stands) in
-    (o, so.0, (refl, fits, spelled), so.1, so.2)
-asked_by line o (Some why) v w out written fits spelled tries = λ s before stands.
+    (o, so.0, (refl, spelled), so.1, so.2)
+asked_by line o (Some why) v w out written spelled tries = λ s before stands.
     let so = was_refused (λ t. StandsAs w t before written) (StandsAs w s before written) why (after_order s o) (tries s before stands) in
-    (inl (o, (refl, fits, spelled), so.0), so.1)
+    (inl (o, (refl, spelled), so.0), so.1)
 
 -- it asks for nothing
 pub nothing_asked : (with_lf : Bool) (line : List ℕ) (why : Refusal) (v : Server) (out : List ℕ) → ((o : Order) → IsOrderOf with_lf line o → ⊥) → IsWhyNothing why with_lf line → TriesLine with_lf line (Some why) v v out out
@@ -177,7 +177,7 @@ of_nobody line why v out none = λ s before stands. (λ run low of_run. absurd (
 pub noted : (v w : OpenCase) (p : Played) (l : Line) (closed : List Played) (before out written : List ℕ) → Rests v p closed before out → entry_in l ≡ [] → w.state ≡ v.state → w.waited ≡ v.waited → ((ls : List Line) → AreMet v.met ls → AreMet w.met (l ∷ ls)) →
     written ≡ out ++ with_lf (line_text l) → Rests w (with_line p l) closed before written
 noted v w p l closed before out written holds none state waited met appends =
-    let past : played_past p ≡ played_past (with_line p l) = ap (λ (es : List Entry). es ++ played_past p) (sym none) in
+    let past : entries_of p.lines ≡ entries_of (l ∷ p.lines) = ap (λ (es : List Entry). es ++ entries_of p.lines) (sym none) in
     let kept = holds.is.opened.kept in
     record {
       is = record {
@@ -185,7 +185,7 @@ noted v w p l closed before out written holds none state waited met appends =
           kept = record {
             behaviours = ap (λ (k : Kept). k.behaviours) state ∙ kept.behaviours;
             few = kept.few;
-            stands = subst (StandsFor w.state) past (subst (λ (k : Kept). StandsFor k (played_past p)) (sym state) kept.stands);
+            stands = subst (StandsFor w.state) past (subst (λ (k : Kept). StandsFor k (entries_of p.lines)) (sym state) kept.stands);
             met_are = met p.lines kept.met_are;
           };
           few = rw waited holds.is.opened.few;
@@ -241,15 +241,15 @@ call_made v w caller op reply out written replied takes behaviours waited met ap
   kept = λ p kept. subst (λ (e : Entry). IsKept w.state w.met (record p { lines = Line.Entry e ∷ p.lines })) (entry_is p kept) (record {
     behaviours = behaviours ∙ kept.behaviours;
     few = kept.few;
-    stands = takes (played_past p) kept.stands;
+    stands = takes (entries_of p.lines) kept.stands;
     met_are = met p.lines kept.met_are;
   });
   text = λ p closed before kept text. subst (λ (e : Entry). IsText (record p { lines = Line.Entry e ∷ p.lines }) closed before written) (entry_is p kept)
       (appended before out written _ _ _ text appends (grows closed p (Line.Entry (entry caller op reply) ∷ p.lines) _ (line_more (Line.Entry (entry caller op reply)) p.lines)));
 }
   where
-    answered : (p : Played) → IsKept v.state v.met p → reply ≡ answer p.behaviours (played_past p) caller.0 op
-    answered p kept = replied (played_past p) kept.stands ∙ ap (λ (n : ℕ). answer n (played_past p) caller.0 op) kept.behaviours
+    answered : (p : Played) → IsKept v.state v.met p → reply ≡ answer p.behaviours (entries_of p.lines) caller.0 op
+    answered p kept = replied (entries_of p.lines) kept.stands ∙ ap (λ (n : ℕ). answer n (entries_of p.lines) caller.0 op) kept.behaviours
 
     entry_is : (p : Played) → IsKept v.state v.met p → entry caller op reply ≡ called p.behaviours p.lines caller op
     entry_is p kept = ap (entry caller op) (answered p kept)
@@ -269,8 +269,8 @@ made_so p caller op P Q free holds = allowed (made caller op p) P Q free (λ q i
 
 -- ---- a call, and who is woken by it
 
-legal : (o : OpenCase) (p : Played) → IsKept o.state o.met p → IsLegal p.behaviours (played_past p)
-legal o p kept = legal_for p.behaviours o.state (played_past p) kept.behaviours kept.stands
+legal : (o : OpenCase) (p : Played) → IsKept o.state o.met p → IsLegal p.behaviours (entries_of p.lines)
+legal o p kept = legal_for p.behaviours o.state (entries_of p.lines) kept.behaviours kept.stands
 
 some : (o : OpenCase) (p : Played) → IsKept o.state o.met p → 0 < p.behaviours
 some o p kept = omega (arith, kept.few.0)

@@ -1,13 +1,13 @@
 -- What the functions inside say.
-use Rattle.std.specs.{Prelude.{ℕ, ◌≡◌, ◌+◌, ◌-◌, ◌<◌, ◌≤◌, ◌^◌, if◌then◌else◌, Bool, true, false, is_some, Option, Some, None, Result, Ok, Err, List, [], ◌∷◌, ◌++◌, length, MatchBool, MatchResult, codes, is_err}, Io.KnownBytes.{Appends, Consumes}, List.{list_all, list_any}}
+use Rattle.std.specs.{Prelude.{ℕ, ◌≡◌, ◌+◌, ◌-◌, ◌<◌, ◌≤◌, ◌^◌, if◌then◌else◌, Bool, true, false, is_some, Option, Some, None, Result, Ok, Err, List, [], ◌∷◌, ◌++◌, length, MatchBool, MatchResult, codes, is_err}, Io.KnownBytes.{Appends, Consumes}, List.{list_all, list_any}, Option.option_map_or}
 use Rattle.tc_stream.specs.Prelude.{AppendsPrefix}
-use Rattle.tc_rules.specs.{Prelude.{Run, IsBehaviours, Kept, StandsFor, waiting, Entry, Op, Reply, entry_made, Verdict, is_over, overall, answer, wake_op}, declared.awaited.Awaited.Awaited}
+use Rattle.tc_rules.specs.{Prelude.{Run, IsBehaviours, Kept, StandsFor, waiting, Entry, Op, Reply, entry_made, Verdict, is_over, overall, answer, is_parked, wake_op}, declared.awaited.Awaited.Awaited}
 use Rattle.tc_blocks.specs.{declared.{line.Line.Line, met.MetRuns.MetRuns}, Prelude.{entries_of, AreMet}}
-use Rattle.tc_serve.specs.{Protocol.{AreServed, IsOf, IsOrderOf, NoLf, OpensNone, Played, Refuses, Sent, ServiceState, after_order, finished_state, moved, played_past, refused, seen, woken_from}, Serve.{HasEnded, bytes_of, lines_messages, stand_text, worst_case}, declared.{service.{ServeFault.ServeFault, Served.Served}, open_case.OpenCase.OpenCase, order.{Order.Order, Refusal.Refusal}, server.Server.Server, serving.Serving.Serving}}
+use Rattle.tc_serve.specs.{Protocol.{AreServed, IsOf, IsOrderOf, NoLf, OpensNone, Played, Refuses, Sent, ServiceState, after_order, finished_state, moved, refused, seen}, Serve.{HasEnded, bytes_of, lines_messages, stand_text, worst_case}, declared.{service.{ServeFault.ServeFault, Served.Served}, open_case.OpenCase.OpenCase, order.{Order.Order, Refusal.Refusal}, server.Server.Server, serving.Serving.Serving}}
 
 -- the verdict that a test case counts as: error if it is not over
 abbrev pub counted : Played → Verdict
-counted p = if is_over (played_past p) then overall (played_past p) else Verdict.Error
+counted p = if is_over (entries_of p.lines) then overall (entries_of p.lines) else Verdict.Error
 
 -- and about the end of the input, by whether a test case is open
 abbrev pub end_told : Bool → List ℕ
@@ -19,7 +19,7 @@ IsNobodys line why s = (run : Run) → run.0 < 2 ^ 16 → IsOf line run.0 → is
 
 -- no run that can continue sleeps: the wake of each run that sleeps would be parked
 abbrev pub IsSettled : Played → Type 0
-IsSettled p = (b : ℕ) (a : Awaited) → b < p.behaviours → waiting (played_past p) b ≡ Some a → answer p.behaviours (played_past p) b (wake_op a) ≡ Reply.Parked
+IsSettled p = (b : ℕ) (a : Awaited) → b < p.behaviours → waiting (entries_of p.lines) b ≡ Some a → answer p.behaviours (entries_of p.lines) b (wake_op a) ≡ Reply.Parked
 
 -- the entry of a call, with the component table's reply
 abbrev pub called : ℕ → List Line → Run → Op → Entry
@@ -53,14 +53,14 @@ with_line p l = record p { lines = l ∷ p.lines }
 pub record IsKept (state : Kept) (met : MetRuns) (p : Played) : Type 0 where
   pub behaviours : state.behaviours ≡ p.behaviours
   pub few : IsBehaviours p.behaviours
-  pub stands : StandsFor state (played_past p)
+  pub stands : StandsFor state (entries_of p.lines)
   pub met_are : AreMet met p.lines
 
 -- it is kept so
 pub record IsOpen (o : OpenCase) (p : Played) : Type 0 where
   pub kept : IsKept o.state o.met p
   pub few : o.waited ≤ p.behaviours
-  pub awake : AreAwake o.waited p.behaviours (played_past p)
+  pub awake : AreAwake o.waited p.behaviours (entries_of p.lines)
 
 -- after these closed ones the text of the test case is what was written before and this
 abbrev pub IsText : Played → List Played → List ℕ → List ℕ → Type 0
@@ -86,7 +86,11 @@ pub record IsCalled (caller : Run) (op : Op) (reply : Reply) (o o' : OpenCase) (
   pub kept : (p : Played) → IsKept o.state o.met p → IsKept o'.state o'.met (record p { lines = after_call p caller op })
   pub text : (p : Played) (closed : List Played) (before : List ℕ) → IsKept o.state o.met p → IsText p closed before out → IsText (record p { lines = after_call p caller op }) closed before written
 
--- run b is woken if it sleeps and can continue
+-- run b, of which this is the wait if it sleeps, is woken if it can continue
+abbrev pub woken_from : ℕ → List Line → ℕ → Option Awaited → List Line
+woken_from n lines b wait = option_map_or (λ a. let e = called n lines (record { 0 = b }) (wake_op a) in if is_parked e.reply then lines else Line.Entry e ∷ lines) wait lines
+
+-- so is a run that sleeps
 abbrev pub woken_once : ℕ → List Line → ℕ → List Line
 woken_once n lines b = woken_from n lines b (waiting (entries_of lines) b)
 
@@ -158,10 +162,6 @@ TellsRun line why false v w out written = (s : ServiceState) (before : List ℕ)
 
 -- ---- lines that come in pieces
 
--- each of these lines was ended by LF
-abbrev pub AllEnded : List Sent → Type 0
-AllEnded lines = list_all (λ l. l.ended) lines ≡ true
-
 -- these lines were served, which are counted; what was written before and this is their text, and so it is with reports
 pub record Counts (v : Serving) (lines : List Sent) (s : ServiceState) (before out before' told : List ℕ) : Type 0 where
   pub served : AreServed lines s
@@ -176,7 +176,7 @@ pub record IsFed (bytes : List ℕ) (v : Serving) (before out before' told : Lis
   pub stand : ServiceState
   pub last : List ℕ
   pub parts : bytes ≡ bytes_of lines ++ last
-  pub all : AllEnded lines
+  pub all : list_all (λ l. l.ended) lines ≡ true
   pub last_is : NoLf last
   pub kept : v.line.items ≡ seen last
   pub counts : Counts v lines stand before out before' told
@@ -196,7 +196,7 @@ IsBadLine _ ended line lines s = ⊥
 
 -- the service is at this line, which has ended or is the last
 pub record IsAtLine (line : List ℕ) (lines : List Sent) (stand : ServiceState) (v : Serving) (before out before' told : List ℕ) : Type 0 where
-  pub all : AllEnded lines
+  pub all : list_all (λ l. l.ended) lines ≡ true
   pub last_is : NoLf line
   pub kept : v.line.items ≡ seen line
   pub counts : Counts v lines stand before out before' told

@@ -21,31 +21,20 @@ why_text Refusal.LateName = codes "late name"
 why_text Refusal.Wake = codes "a wake comes of itself"
 why_text Refusal.Waiting = codes "the run waits"
 
--- a line, without its LF; the one that opens a test case has its name, and how many behaviours it has
-abbrev pub order_text : Order → List ℕ
-order_text (Order.Case name n) = codes "case " ++ (name ++ (codes " " ++ decimal n))
-order_text (Order.Named run name) = naming_text run.0 name
-order_text (Order.Move caller op) = move_text caller.0 op
-order_text (Order.Remark run sentence) = said_text false run.0 sentence
-order_text Order.End = codes "end"
-
--- names, sentences and operations are such, and the numbers are those of their types
-abbrev pub IsOrder : Order → Type 0
-IsOrder (Order.Case name n) = IsName name × IsBehaviours n
-IsOrder (Order.Named run name) = (run.0 < 2 ^ 16) × IsName name
-IsOrder (Order.Move caller op) = (caller.0 < 2 ^ 16) × IsOp op
-IsOrder (Order.Remark run sentence) = (run.0 < 2 ^ 16) × IsSentence sentence
-IsOrder Order.End = Unit {0}
+-- the line, without its LF, is the one spelling of what it asks for: names, sentences and operations are such, and numbers are those of
+-- their types. The one that opens a test case has its name, and how many behaviours it has
+abbrev pub SpellsOrder : List ℕ → Order → Type 0
+SpellsOrder line (Order.Case name n) = IsName name × IsBehaviours n × (line ≡ codes "case " ++ (name ++ (codes " " ++ decimal n)))
+SpellsOrder line (Order.Named run name) = (run.0 < 2 ^ 16) × IsName name × (line ≡ naming_text run.0 name)
+SpellsOrder line (Order.Move caller op) = (caller.0 < 2 ^ 16) × IsOp op × (line ≡ move_text caller.0 op)
+SpellsOrder line (Order.Remark run sentence) = (run.0 < 2 ^ 16) × IsSentence sentence × (line ≡ said_text false run.0 sentence)
+SpellsOrder line Order.End = line ≡ codes "end"
 
 -- a test case: its name, how many behaviours it has, and the lines of its evidence, the newest first
 pub record Played : Type 0 where
   pub name : List ℕ
   pub behaviours : ℕ
   pub lines : List Line
-
--- its entries, the newest first
-abbrev pub played_past : Played → List Entry
-played_past p = entries_of p.lines
 
 -- the state of the service: the test cases that were closed, the newest first, and the one that is open
 pub record ServiceState : Type 0 where
@@ -54,27 +43,23 @@ pub record ServiceState : Type 0 where
 
 -- ---- a call, and who is woken by it
 
--- run b, of which this is the wait if it sleeps, is woken if it can continue: the entry of its wake is added, unless that is
--- replied parked
-abbrev pub woken_from : ℕ → List Line → ℕ → Option Awaited → List Line
-woken_from n lines b wait = option_map_or (λ a. let e = entry_made n (entries_of lines) (record { 0 = b }) (wake_op a) in
-    if is_parked e.reply then lines else Line.Entry e ∷ lines) wait lines
-
--- so are the first k runs, in the order of their numbers, each judged after those before it
+-- the lines after the first k runs were woken, in the order of their numbers, each judged after those before it. A run that sleeps is woken
+-- if it can continue: the entry of its wake is added, unless that is replied parked
 abbrev pub woken : ℕ → List Line → ℕ → List Line
 woken n lines zero = lines
-woken n lines (suc k) = woken_from n (woken n lines k) k (waiting (entries_of (woken n lines k)) k)
+woken n lines (suc k) = let now = woken n lines k in option_map_or (λ a. let e = entry_made n (entries_of now) (record { 0 = k }) (wake_op a) in
+    if is_parked e.reply then now else Line.Entry e ∷ now) (waiting (entries_of now) k) now
 
 -- ---- what may be asked of the test case that is open, and what that adds, or why it is refused
 
 -- the test case after the call: its entry is added, and the wakes of all runs that can continue
 abbrev pub moved : Played → Run → Op → Played
-moved p caller op = record p { lines = woken p.behaviours (Line.Entry (entry_made p.behaviours (played_past p) caller op) ∷ p.lines) p.behaviours }
+moved p caller op = record p { lines = woken p.behaviours (Line.Entry (entry_made p.behaviours (entries_of p.lines) caller op) ∷ p.lines) p.behaviours }
 
 -- the call is made, unless it is a wake, or its run is one of the test case and sleeps
 abbrev pub made : Run → Op → Played → Result Played Refusal
 made caller op p = if is_wake op then Err Refusal.Wake
-    else if nat_lt caller.0 p.behaviours && is_some (waiting (played_past p) caller.0) then Err Refusal.Waiting else Ok (moved p caller op)
+    else if nat_lt caller.0 p.behaviours && is_some (waiting (entries_of p.lines) caller.0) then Err Refusal.Waiting else Ok (moved p caller op)
 
 -- the line of this run is added, if the run is one of the test case
 abbrev pub with_added_line : Run → Line → Played → Result Played Refusal
@@ -108,7 +93,7 @@ IsOf line run = (rest : List ℕ) × EndsNumber rest × (line ≡ decimal run ++
 
 -- the line asks for this; one that no LF ends asks for nothing
 abbrev pub IsOrderOf : Bool → List ℕ → Order → Type 0
-IsOrderOf ended line o = (ended ≡ true) × IsOrder o × (line ≡ order_text o)
+IsOrderOf ended line o = (ended ≡ true) × SpellsOrder line o
 
 -- the line begins as a remark of some run does
 abbrev pub BeginsRemark : List ℕ → Type 0
@@ -116,7 +101,7 @@ BeginsRemark line = (run : ℕ) × (text : List ℕ) × (run < 2 ^ 16) × (line 
 
 -- the line would open a test case, of a number of behaviours that none has
 abbrev pub OpensNone : List ℕ → Type 0
-OpensNone line = (name : List ℕ) × (n : ℕ) × IsName name × (n < 2 ^ 32) × (IsBehaviours n → ⊥) × (line ≡ order_text (Order.Case name n))
+OpensNone line = (name : List ℕ) × (n : ℕ) × IsName name × (n < 2 ^ 32) × (IsBehaviours n → ⊥) × (line ≡ codes "case " ++ (name ++ (codes " " ++ decimal n)))
 
 -- this is why a line asks for nothing, if it asks for nothing
 abbrev pub IsWhyNothing : Refusal → Bool → List ℕ → Type 0

@@ -1,29 +1,23 @@
 -- The service: what is written and reported of the lines that came, what their verdicts come to, and how it ends.
 use Rattle.std.specs.{Prelude.{MatchBool, ℕ, ◌+◌, if◌then◌else◌, List, [], ◌∷◌, ◌++◌, codes, length, map, reverse, ◌≡◌, ◌≢◌, ◌-◌, ◌≤◌, ◌^◌, ◌⊎◌, true, false, is_some, is_err, Option, Result, Ok, Err}, Fmt.decimal, List.{flat_map, list_all, list_any}, Option.option_map_or, Result.result_err, Io.KnownBytes.{Appends, Consumes, IsAtEnd}}
 use Rattle.tc_rules.specs.Prelude.{Verdict, worst, overall, is_over}
-use Rattle.tc_blocks.specs.{Prelude.{end_text, line_text, with_lf, header_text}, declared.header.{Header.Header, Kind.Kind}}
-use Rattle.tc_serve.specs.{Protocol.{Played, Sent, ServiceState, played_past, why_text, AreServed, NoLf, Refuses, finished_state, seen}, declared.{order.Refusal.Refusal, service.{ServeFault.ServeFault, Ending.Ending, Served.Served}}}
+use Rattle.tc_blocks.specs.{Prelude.{end_text, entries_of, line_text, with_lf, header_text}, declared.header.Kind.Kind}
+use Rattle.tc_serve.specs.{Protocol.{Played, Sent, ServiceState, why_text, AreServed, NoLf, Refuses, finished_state, seen}, declared.{order.Refusal.Refusal, service.{ServeFault.ServeFault, Ending.Ending, Served.Served}}}
 use Rattle.tc_stream.specs.Prelude.{AppendsPrefix}
 
--- what the first line of its evidence says
-abbrev pub case_header : Played → Header
-case_header p = record { kind = Kind.Evidence; name = p.name; behaviours = p.behaviours }
-
--- the text of a test case that is open
+-- the text of a test case that is open: evidence, as far as it goes
 abbrev pub opened_text : Played → List ℕ
-opened_text p = with_lf (header_text (case_header p)) ++ flat_map (λ l. with_lf (line_text l)) (reverse p.lines)
+opened_text p = with_lf (header_text (record { kind = Kind.Evidence; name = p.name; behaviours = p.behaviours }))
+    ++ flat_map (λ l. with_lf (line_text l)) (reverse p.lines)
 
--- the text of a test case that was closed
-abbrev pub block : Played → List ℕ
-block p = opened_text p ++ with_lf (end_text (overall (played_past p)))
-
--- the text so far
+-- the text so far: the evidence of the test cases that were closed, each with its verdict, and of the one that is open
 abbrev pub stand_text : ServiceState → List ℕ
-stand_text s = flat_map block (reverse s.closed) ++ option_map_or opened_text s.current []
+stand_text s = flat_map (λ p. opened_text p ++ with_lf (end_text (overall (entries_of p.lines)))) (reverse s.closed)
+    ++ option_map_or opened_text s.current []
 
 -- the worst of the test cases that were closed, each of which counts as error if it is not over
 abbrev pub worst_case : ServiceState → Verdict
-worst_case s = worst (map (λ p. if is_over (played_past p) then overall (played_past p) else Verdict.Error) s.closed)
+worst_case s = worst (map (λ p. if is_over (entries_of p.lines) then overall (entries_of p.lines) else Verdict.Error) s.closed)
 
 -- the bytes of lines, the newest first in the list, each with its LF
 abbrev pub bytes_of : List Sent → List ℕ

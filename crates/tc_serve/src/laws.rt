@@ -1,24 +1,24 @@
 //! Laws of what is served: each function changes nothing, and its contract is the law.
 ghost use Rattle.std.specs.{Prelude.{◌≡◌, ◌≢◌, ◌<◌, ◌≤◌, ◌++◌, ℕ, Some, [], Bool, List, Option, Result, false, length, reverse, true}, List.{AllByRecursion, AllZip, filter_map}, Result.result_ok};
 ghost use Rattle.tc_rules.specs.{Prelude.{IsLegal, Reply, Run, answer, is_parked, is_wake, overall, waiting, wake_op}, declared.awaited.Awaited.Awaited};
-ghost use Rattle.tc_blocks.specs.{Prelude.AreEvidence, declared.block.Block.Block};
-ghost use Rattle.tc_serve.specs.{Protocol.{AreServed, Comes, Refuses, Sent, ServiceState, finished_state, played_past, seen}, Serve.{case_header, stand_text}, declared.order.{Order.Order, Refusal.Refusal, TheConstants.LINE_BYTES}};
+ghost use Rattle.tc_blocks.specs.{Prelude.{AreEvidence, entries_of}, declared.{block.Block.Block, header.Kind.Kind}};
+ghost use Rattle.tc_serve.specs.{Protocol.{AreServed, Comes, Refuses, Sent, ServiceState, finished_state, seen}, Serve.stand_text, declared.order.{Order.Order, Refusal.Refusal, TheConstants.LINE_BYTES}};
 ghost use Rattle.tc_serve.specs.Laws as laws;
 
 /// Each history is legal, and no wake in it is replied parked.
 #[tactic(auto, using(crate::proofs::Evident::served_is_legal, crate::proofs::Evident::no_idle_wake))]
 pub fn served_is_sound()
-    ensures legal { laws.AllServed (λ p. IsLegal p.behaviours (played_past p)) }
+    ensures legal { laws.AllServed (λ p. IsLegal p.behaviours (entries_of p.lines)) }
     ensures wakes { laws.AllServed (λ p. AllByRecursion (λ e. is_wake e.op ≡ true
-        → is_parked e.reply ≡ false) (played_past p)) }
+        → is_parked e.reply ≡ false) (entries_of p.lines)) }
 {}
 
 /// After each line no run sleeps that can continue: the wake of each run that sleeps would be parked.
 #[tactic(auto, using(crate::proofs::Settled::nobody_sleeps_on))]
 pub fn nobody_sleeps_on()
     ensures { laws.AllServed (λ p. (b : ℕ) (a : Awaited) → b < p.behaviours
-        → waiting (played_past p) b ≡ Some a
-        → answer p.behaviours (played_past p) b (wake_op a) ≡ Reply.Parked) }
+        → waiting (entries_of p.lines) b ≡ Some a
+        → answer p.behaviours (entries_of p.lines) b (wake_op a) ≡ Reply.Parked) }
 {}
 
 /// The evidence has what was asked for, each once and in its order, and nothing else but wakes and refusals.
@@ -33,8 +33,9 @@ pub fn evidence_is_asked()
 pub fn served_is_evidence()
     ensures { (lines : List Sent) (s : ServiceState) → AreServed lines s → (finished_state s).closed ≢ []
         → (blocks : List Block) × AreEvidence (stand_text (finished_state s)) blocks
-        × AllZip (λ p b. (b.header ≡ case_header p) × (b.lines ≡ reverse p.lines)
-        × (b.verdict ≡ overall (played_past p))) (reverse (finished_state s).closed) blocks }
+        × AllZip (λ p b. (b.header.kind ≡ Kind.Evidence) × (b.header.name ≡ p.name)
+        × (b.header.behaviours ≡ p.behaviours) × (b.lines ≡ reverse p.lines)
+        × (b.verdict ≡ overall (entries_of p.lines))) (reverse (finished_state s).closed) blocks }
 {}
 
 /// A line is refused that is as long as what is looked at of one, or longer.

@@ -1,8 +1,8 @@
 //! What a line asks for, and why it is refused.
-ghost use Rattle.std.specs.Prelude.{◌≡◌, ◌<◌, ◌^◌, ℕ, List, false, true, Ok, Some, None, IfSome, IfOk, IfErr, MatchOption};
+ghost use Rattle.std.specs.{Prelude.{◌≡◌, ◌<◌, ◌^◌, ◌++◌, ℕ, List, codes, false, true, Ok, Some, None, IfSome, IfOk, IfErr, MatchOption}, Fmt.decimal};
 ghost use Rattle.tc_rules.specs.Prelude.{IsName};
 ghost use Rattle.tc_blocks.specs.Prelude.{naming_text, said_text};
-ghost use Rattle.tc_serve.specs.{Inside.IsOther, Inside.IsWhyOther, Protocol.IsOrder, Protocol.IsWhyNothing, Protocol.order_text, Protocol.why_text};
+ghost use Rattle.tc_serve.specs.{Inside.IsOther, Inside.IsWhyOther, Protocol.IsWhyNothing, Protocol.SpellsOrder, Protocol.why_text};
 
 use std::alloc::Global;
 use tc_blocks::Sentence;
@@ -80,10 +80,10 @@ impl Refusal {
 
 // The test case that the line opens, and its number of behaviours, whatever it is.
 fn read_case(text: &[u8]) -> Option<(Name, u32)>
-    ensures spelled { IfSome result (λ r. text.now ≡ order_text (Order.Case r.0 r.1)) }
+    ensures spelled { IfSome result (λ r. text.now ≡ codes "case " ++ (r.0 ++ (codes " " ++ decimal r.1))) }
     ensures fits { IfSome result (λ r. IsName r.0 × (r.1 < 2 ^ 32)) }
-    ensures only { (name : List ℕ) (n : ℕ) → IsName name → n < 2 ^ 32 → text.now ≡ order_text (Order.Case name n)
-        → result ≡ Some (name, n) }
+    ensures only { (name : List ℕ) (n : ℕ) → IsName name → n < 2 ^ 32 →
+        text.now ≡ codes "case " ++ (name ++ (codes " " ++ decimal n)) → result ≡ Some (name, n) }
 {
     let rest = after(text, b"case ")?;
     let (name, rest) = take_name(rest)?;
@@ -116,9 +116,8 @@ fn read_remark(text: &[u8]) -> Option<(Run, &[u8])>
 
 // What the line asks for, if it is neither a move nor a remark, or why it asks for nothing.
 fn read_other(text: &[u8]) -> Result<Order, Refusal>
-    ensures spelled { IfOk result (λ o. text.now ≡ order_text o) }
-    ensures fits { IfOk result IsOrder }
-    ensures only { (o : Order) → IsOrder o → IsOther o → text.now ≡ order_text o → result ≡ Ok o }
+    ensures spelled { IfOk result (λ o. SpellsOrder text.now o) }
+    ensures only { (o : Order) → SpellsOrder text.now o → IsOther o → result ≡ Ok o }
     ensures why { IfErr result (λ why. IsWhyOther why text.now) }
 {
     if let Some((run, name)) = read_naming(text) {
@@ -136,9 +135,8 @@ fn read_other(text: &[u8]) -> Result<Order, Refusal>
 
 /// What the line asks for, or why it asks for nothing.
 pub(crate) fn read_order(alloc: Global, text: &[u8]) -> Result<Result<Order, Refusal>, NoMemory>
-    ensures spelled { IfOk result (λ found. IfOk found (λ o. text.now ≡ order_text o)) }
-    ensures fits { IfOk result (λ found. IfOk found IsOrder) }
-    ensures only { (o : Order) → IsOrder o → text.now ≡ order_text o → IfOk result (λ found. found ≡ Ok o) }
+    ensures spelled { IfOk result (λ found. IfOk found (λ o. SpellsOrder text.now o)) }
+    ensures only { (o : Order) → SpellsOrder text.now o → IfOk result (λ found. found ≡ Ok o) }
     ensures why { IfOk result (λ found. IfErr found (λ why. IsWhyNothing why true text.now)) }
 {
     if text.len() >= LINE_BYTES {

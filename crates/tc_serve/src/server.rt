@@ -2,7 +2,7 @@
 ghost use Rattle.std.specs.{Prelude.{◌≡◌, ◌<◌, ◌^◌, [], ℕ, List, true, Some, IfOk, MatchOption}, Io.StartsWith};
 ghost use Rattle.tc_rules.specs.Prelude.{IsBehaviours};
 ghost use Rattle.tc_text.specs.Prelude.{move_text};
-ghost use Rattle.tc_serve.specs.{Inside.StandsAs, Inside.TellsRun, Inside.Tries, Inside.TriesLine, Inside.start as spec_start, Protocol.IsOf, Protocol.IsOrder, Protocol.after_order, Protocol.made, Protocol.order_text, Protocol.with_added_line, Protocol.with_name, Protocol.with_open};
+ghost use Rattle.tc_serve.specs.{Inside.StandsAs, Inside.TellsRun, Inside.Tries, Inside.TriesLine, Inside.start as spec_start, Protocol.IsOf, Protocol.SpellsOrder, Protocol.after_order, Protocol.made, Protocol.with_added_line, Protocol.with_name, Protocol.with_open};
 
 use crate::open_case::OpenCase;
 use crate::order::{Order, Refusal, Tried, read_order};
@@ -112,8 +112,7 @@ impl Server {
     // Does what the line asks for; why it is refused, if it is. If memory runs out, a part of its text may have been
     // appended.
     fn take(&mut self, order: Order, line: &[u8], out: &mut Vec<u8>) -> Tried
-        requires fits { IsOrder order }
-        requires spelled { line.now ≡ order_text order }
+        requires { SpellsOrder line.now order }
         ensures ok { IfOk result (λ why. Tries (λ s. after_order s order) why self.old self.new out.old.items out.new.items) }
         ensures any { StartsWith out.new.items out.old.items }
     {

@@ -3,7 +3,7 @@ use base.Fml.{Fml, fex, ftrue}
 use denote.RattleType.{RattleType}
 use denote.RawPtr.{Ptr}
 use Rattle.std.specs.{Prelude.{ℕ, ◌≡◌, ◌≢◌, ◌<◌, ◌≤◌, ◌^◌, ◌++◌, ◌∷◌, ◌↔◌, ◌⊎◌, Bool, List, MatchOption, [], None, Option, Some, drop, if◌then◌else◌, is_some, length, true}, Option.option_map, Box.Ownership.box_owns, contracts.impls.GlobalAllocator.TheImpl.ghosts, declared.alloc.Global.Global}
-use Rattle.tc_rules.specs.{Prelude.{Case, Entry, IsLegal, IsName, Op, Reply, answer, overall, past_of}, contracts.table.Table.the_row}
+use Rattle.tc_rules.specs.{Prelude.{Case, Entry, IsLegal, Op, Reply, answer, overall, past_of}, contracts.table.Table.the_row}
 use Rattle.tc_text.specs.Prelude.{IsOp, move_text, reply_text}
 use Rattle.tc_blocks.specs.{Histories.AreHistories, Prelude.history_text}
 
@@ -64,7 +64,6 @@ written_text name t = history_text 2 name t.behaviours t.history (overall (past_
 
 -- the room begins with the history, which is read so, and is legal
 pub record IsHistoryGiven (case : Case) (name before after : List ℕ) (count : ℕ) : Type 0 where
-  pub named : IsName name
   pub told : Begins before after count (written_text name case)
   pub is_read : AreHistories (written_text name case)
       (record { format = 2; name = name; behaviours = case.behaviours; first_line = 1; entries = case.history; verdict = overall (past_of case) } ∷ [])

@@ -1,7 +1,7 @@
 -- The first words of operations, and what operations are about, read from the text after these.
 use Rattle.std.{proofs.{Common.{◌≡◌, ◌≢◌, ◌∙◌, true, false, Some, None, ℕ, List, ◌++◌, codes, refl, ap, sym, append_assoc, ◌<◌, ◌≤◌, ◌+◌, ◌^◌, [], ◌∷◌, length, arith}, lemmas.Grind.common_steps}, specs.Fmt.decimal}
 use Rattle.tc_entry.specs.{declared.comp.Comp.Comp, declared.limits.TheConstants.ARGUMENTS, declared.op.Group.Group, declared.op.Op.Op, declared.op.Target.Target, declared.reply.Fault.Fault, Prelude.{Run, fault_name}}
-use Rattle.tc_text.{specs.{Inside.{IsWait, operand_text, status_text, verb_of, verb_text, start_text, AreComps}, Reading.{EndsMove, EndsNumber}, Spelling.{IsComp, IsGroup, IsTarget, args_text, group_text, op_text, target_text}, declared.verb.{Status.Status, Verb.Verb}}, proofs.Lemmas.Digits.{digit_first, no_letter}}
+use Rattle.tc_text.{specs.{Inside.{IsWait, args_text, operand_text, status_text, verb_of, verb_text, start_text, AreComps}, Reading.{EndsMove, EndsNumber}, Spelling.{IsComp, IsGroup, IsTarget, group_text, op_text, target_text}, declared.verb.{Status.Status, Verb.Verb}}, proofs.Lemmas.Digits.{digit_first, no_letter}}
 
 -- an operation is its first words and what follows them
 pub op_words : (op : Op) → op_text op ≡ verb_text (verb_of op) ++ operand_text op

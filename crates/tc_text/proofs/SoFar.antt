@@ -1,7 +1,7 @@
 -- How far a list of moves is read.
 use Rattle.std.{proofs.{Common.{◌≡◌, ◌≢◌, ◌∙◌, ◌+◌, inl, inr, ℕ, List, [], ◌∷◌, ◌++◌, length, map, sym, ap, refl, append_assoc, arith}, lemmas.List.{append-nil, length-append, length-map}}, specs.List.AllByRecursion}
 use Rattle.tc_entry.specs.Prelude.{IsBehaviours}
-use Rattle.tc_text.{specs.{Inside.{IsMadeOfMoves, IsNoMove, behaviours_line, list_lines, move_line}, MoveList.{IsListFault, IsMove, IsMoveList, Move, lines_of}, declared.fault.{TextFault.TextFault, TextKind.TextKind}}, proofs.Lemmas.LinesOf.some_line}
+use Rattle.tc_text.{specs.{Inside.{IsMadeOfMoves, IsMove, IsNoMove, behaviours_line, list_lines, move_line}, MoveList.{IsListFault, IsMoveList, Move, lines_of}, declared.fault.{TextFault.TextFault, TextKind.TextKind}}, proofs.Lemmas.LinesOf.some_line}
 
 -- the moves are the ones read, and those that the rest spells
 pub record Remains (moves : List Move) (rest : List ℕ) (all : List Move) : Type 0 where

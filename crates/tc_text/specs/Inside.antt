@@ -1,7 +1,7 @@
 -- What only the way the texts are read needs: no public clause names a word of this file.
-use Rattle.std.specs.{Prelude.{ℕ, ◌≡◌, ◌≢◌, ◌<◌, ◌≤◌, ◌+◌, ◌-◌, ◌*◌, ◌^◌, ◌++◌, codes, drop, length, map, take, Bool, true, false, if◌then◌else◌, List, [], ◌∷◌, Option, Some, None, MatchOption, slice_get}, Borrow.Bor, Char.is_ascii_digit, Fmt.decimal, Str.all_ascii_digits, List.AllByRecursion}
+use Rattle.std.specs.{Prelude.{ℕ, ◌≡◌, ◌≢◌, ◌<◌, ◌≤◌, ◌+◌, ◌-◌, ◌*◌, ◌^◌, ◌++◌, codes, drop, length, map, take, Bool, true, false, if◌then◌else◌, List, [], ◌∷◌, Option, Some, None, MatchOption, slice_get}, Borrow.Bor, Char.is_ascii_digit, Fmt.decimal, Str.all_ascii_digits, List.{AllByRecursion, flat_map}}
 use Rattle.tc_entry.specs.{Prelude.{Run, given, name_of}, declared.comp.Comp.Comp, declared.op.Op.Op, declared.op.Target.Target}
-use Rattle.tc_text.specs.{MoveList.{IsMove, IsMoveList, Move, lines_of}, Said.{ends_word, is_plain}, Spelling.{args_text, group_text, move_text, target_text, IsComp}, declared.{said.Part.Part, verb.{Status.Status, Verb.Verb}}}
+use Rattle.tc_text.specs.{MoveList.{IsMoveList, Move, lines_of}, Said.{ends_word, is_plain}, Spelling.{IsComp, IsOp, group_text, move_text, target_text}, declared.{said.Part.Part, verb.{Status.Status, Verb.Verb}}}
 
 -- the byte, or a question mark for one that is not printable
 abbrev pub as_printable : ℕ → ℕ
@@ -10,6 +10,10 @@ as_printable b = if is_plain b then b else 63
 -- components, each with a number of 32 bits
 abbrev pub AreComps : List Comp → Type 0
 AreComps cs = AllByRecursion IsComp cs
+
+-- a move whose numbers are those of their types
+abbrev pub IsMove : Move → Type 0
+IsMove m = (m.0.0 < 2 ^ 16) × IsOp m.1
 
 -- the line of a move
 abbrev pub move_line : Move → List ℕ
@@ -151,6 +155,10 @@ verb_of (Op.Wake true _) = Verb.Status Status.WakeKilled
 verb_of (Op.SetVerdict _) = Verb.SetVerdict
 verb_of Op.GetVerdict = Verb.GetVerdict
 verb_of Op.Finish = Verb.Finish
+
+-- each argument with a space in front
+abbrev pub args_text : List Comp → List ℕ
+args_text cs = flat_map (λ c. codes " " ++ decimal c.0) cs
 
 -- what follows `start `
 abbrev pub start_text : Comp → Run → List Comp → List ℕ

@@ -13,14 +13,10 @@ lines_of (b ∷ bs) = if b == 10 then [] ∷ lines_of bs else onto_first b (line
 abbrev pub Move : Type 0
 Move = Run × Op
 
--- a move whose numbers are those of their types
-abbrev pub IsMove : Move → Type 0
-IsMove m = (m.0.0 < 2 ^ 16) × IsOp m.1
-
--- these are the lines of n behaviours and these moves
+-- these are the lines of n behaviours and these moves, whose numbers are those of their types
 pub record AreMoveLines (n : ℕ) (moves : List Move) (all : List (List ℕ)) : Type 0 where
   pub behaviours : IsBehaviours n
-  pub fits : AllByRecursion IsMove moves
+  pub fits : AllByRecursion (λ m. (m.0.0 < 2 ^ 16) × IsOp m.1) moves
   pub lines : all ≡ (codes "behaviours " ++ decimal n) ∷ map (λ m. move_text m.0.0 m.1) moves
 
 -- the text is that of n behaviours and these moves

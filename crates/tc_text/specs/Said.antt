@@ -1,6 +1,6 @@
 -- Bytes that are shown to a reader, and lines for a reader next to an answer, by what matters of each: its numbers and
 -- its names. No clause spells the prose around them.
-use Rattle.std.specs.{Prelude.{ℕ, ◌&&◌, nat_le, Bool, ◌≡◌, ◌⊎◌, not, true, List, [], ◌∷◌, ◌++◌, map, if◌then◌else◌}, Fmt.decimal, List.flat_map}
+use Rattle.std.specs.{Prelude.{ℕ, ◌&&◌, nat_le, Bool, ◌≡◌, ◌⊎◌, not, true, false, slice_get, List, [], ◌∷◌, ◌++◌, map, if◌then◌else◌}, Fmt.decimal, List.flat_map, Option.option_map_or}
 use Rattle.tc_entry.specs.Prelude.{is_name_byte}
 use Rattle.tc_text.specs.declared.said.Part.{Part}
 
@@ -14,8 +14,7 @@ Line = List (List ℕ)
 
 -- a word ends before this text: no letter, digit or `_` comes first
 abbrev pub ends_word : List ℕ → Bool
-ends_word [] = true
-ends_word (b ∷ bs) = not (is_name_byte b)
+ends_word text = not (option_map_or is_name_byte (slice_get text 0) false)
 
 -- the text has these words in this order, each after a space
 abbrev pub Holds : Line → List ℕ → Type 0

@@ -1,5 +1,5 @@
 -- The one spelling of each move and each reply; it is this project's own.
-use Rattle.std.specs.{Prelude.{ℕ, ◌<◌, ◌≤◌, ◌^◌, true, false, Some, IfSome, if◌then◌else◌, List, [], ◌++◌, length, codes}, Fmt.decimal, List.{flat_map, AllByRecursion}, Option.option_map_or}
+use Rattle.std.specs.{Prelude.{ℕ, ◌<◌, ◌≤◌, ◌^◌, Some, IfSome, if◌then◌else◌, List, [], ◌++◌, length, codes}, Fmt.decimal, List.{flat_map, AllByRecursion}, Option.option_map_or}
 use Rattle.tc_entry.specs.{declared.comp.Comp.Comp, declared.limits.TheConstants.ARGUMENTS, declared.op.Group.Group, declared.op.Op.Op, declared.op.Target.Target, declared.reply.Reply.Reply, Prelude.{IsName, fault_name, given, name_of}}
 
 -- a component by its number, or all of them
@@ -13,10 +13,6 @@ target_text (Target.One c) = decimal c.0
 target_text Target.Any = codes "any"
 target_text Target.All = codes "all"
 
--- each argument with a space in front
-abbrev pub args_text : List Comp → List ℕ
-args_text cs = flat_map (λ c. codes " " ++ decimal c.0) cs
-
 -- an operation with more to it than others: a start, and a create with a name
 abbrev pub IsLong : Op → Type 0
 IsLong (Op.Start c run args) = Unit {0}
@@ -26,7 +22,7 @@ IsLong _ = ⊥
 -- an operation, without its caller
 abbrev pub op_text : Op → List ℕ
 op_text (Op.Create alive name) = codes "create" ++ ((if alive then codes " alive" else []) ++ option_map_or (λ n. codes " named " ++ n) name [])
-op_text (Op.Start c run args) = codes "start " ++ (decimal c.0 ++ (codes " " ++ (decimal run.0 ++ args_text args)))
+op_text (Op.Start c run args) = codes "start " ++ (decimal c.0 ++ (codes " " ++ (decimal run.0 ++ flat_map (λ a. codes " " ++ decimal a.0) args)))
 op_text (Op.Stop g) = codes "stop " ++ group_text g
 op_text (Op.Kill g) = codes "kill " ++ group_text g
 op_text Op.StopCase = codes "stopcase"
@@ -48,8 +44,7 @@ move_text run op = decimal run ++ (codes " " ++ op_text op)
 abbrev pub reply_text : Reply → List ℕ
 reply_text (Reply.Made c) = codes "made " ++ decimal c.0
 reply_text Reply.Ok = codes "ok"
-reply_text (Reply.Answer true) = codes "true"
-reply_text (Reply.Answer false) = codes "false"
+reply_text (Reply.Answer holds) = if holds then codes "true" else codes "false"
 reply_text (Reply.Local v) = name_of v
 reply_text Reply.Matched = codes "matched"
 reply_text Reply.Parked = codes "parked"

@@ -1,7 +1,7 @@
 //! What operations are about.
 ghost use Rattle.std.specs.{Prelude.{◌≡◌, ◌<◌, ◌≤◌, ◌+◌, ◌^◌, ◌++◌, ℕ, Bool, List, codes, length, Some, IfSome, MatchOption}, Fmt.decimal};
 ghost use Rattle.tc_entry.specs.{declared.limits.TheConstants.ARGUMENTS, declared.op.Op.TheVariants.{Create as AnyCreate, Start as AnyStart}, Prelude.{given, name_of, IsName}};
-ghost use Rattle.tc_text.specs.{Inside.{EndsKind, kind_text, named_text, operand_text, verb_of, AreComps, start_text}, Reading.{EndsMove, EndsNumber, Takes}, Spelling.{IsGroup, IsOp, IsTarget, args_text, group_text, target_text}, declared.verb.Verb.Verb};
+ghost use Rattle.tc_text.specs.{Inside.{EndsKind, args_text, kind_text, named_text, operand_text, verb_of, AreComps, start_text}, Reading.{EndsMove, EndsNumber, Takes}, Spelling.{IsGroup, IsOp, IsTarget, group_text, target_text}, declared.verb.Verb.Verb};
 
 use crate::cursor::after;
 use crate::name::{take_name, take_verdict};

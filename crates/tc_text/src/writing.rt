@@ -1,6 +1,6 @@
 //! Writing moves, and what they are made of.
 ghost use Rattle.std.specs.{Prelude.{◌≡◌, ◌++◌, OnOk, OnErr}, Fmt.decimal, Io.StartsWith};
-ghost use Rattle.tc_text.specs.{Inside.operand_text, Spelling.args_text, Spelling.group_text, Spelling.move_text, Spelling.op_text, Spelling.target_text};
+ghost use Rattle.tc_text.specs.{Inside.args_text, Inside.operand_text, Spelling.group_text, Spelling.move_text, Spelling.op_text, Spelling.target_text};
 
 use crate::verb::Verb;
 use itoa::Buffer;

@@ -1,12 +1,12 @@
 -- The chosen ones of the test cases that were made of a script are those of the chosen ones of the script, and all
 -- shards together have each. The number of a line before its words.
-use Rattle.std.{proofs.{Common.{ℕ, ◌≡◌, ◌∙◌, ◌+◌, ◌<◌, ◌↔◌, ◌&&◌, ◌||◌, Bool, true, false, List, [], ◌∷◌, Option, Some, None, Ok, All, ap, ap₂, refl, subst, sym, true≢false, ◌++◌, codes, append_assoc, ◌%◌}, lemmas.{Bool.{eq-eqb, eqb-true}, List.Elements.{All-cons, All-filter, All-head, All-tail}}, Math.Nat.mod-lt}, specs.{Fmt.decimal, List.{AllZip, list_any}, Prelude.{filter, if◌then◌else◌, map}}}
+use Rattle.std.{proofs.{Common.{ℕ, ◌≡◌, ◌∙◌, ◌+◌, ◌<◌, ◌↔◌, ◌⊎◌, inl, inr, ◌&&◌, ◌||◌, Bool, true, false, List, [], ◌∷◌, Option, Some, None, Ok, All, ap, ap₂, refl, subst, sym, true≢false, ◌++◌, codes, append_assoc, ◌%◌}, lemmas.{Bool.{eq-eqb, eqb-true}, List.Elements.{All-cons, All-filter, All-head, All-tail}}, Math.Nat.mod-lt}, specs.{Fmt.decimal, List.{AllZip, list_any}, Prelude.{filter, if◌then◌else◌, map}}}
 use Rattle.tc_rules.specs.Prelude.{matches, IsShard, ShardView, has_place}
 use Rattle.tc_exec.specs.declared.test_case.Case.{Case}
 use Rattle.tc_step.specs.Prelude.{ScriptView}
 use Rattle.tc_command.specs.declared.task.Choice.{Choice}
 use Rattle.tc_reader.specs.Prelude.{CampaignView, campaign, IsCase, Word, among, has_twice, is_text}
-use Rattle.tc_answer.specs.{Choosing.{CaseView, RefusesChoice, case_name, chosen, have_names, is_asked, placed_in_shard}, Inside.{AreReady, AreReadyAs, IsCaseOf, RefusesNames, case_parts, named, place_text, script_name}, declared.fault.RunFault.RunFault}
+use Rattle.tc_answer.specs.{Choosing.{AreChosen, CaseView, RefusesChoice, case_name, chosen, have_names, is_asked, placed_in_shard}, Inside.{AreReadyAs, IsCaseOf, case_parts, named, place_text, script_name}, declared.fault.RunFault.RunFault}
 
 module _ {C : Type 0} (P : C → Type 0) where
   all_with : (b : Bool) (c : C) (cs : List C) → P c → All P cs → All P (if b then c ∷ cs else cs)
@@ -134,7 +134,7 @@ same_names (pattern ∷ only) cs ks each = ap₂ ◌&&◌ (same_any pattern cs k
 
 -- the chosen ones of test cases that were made of a script are ready to be run
 pub ready : (choice : Choice) (text : List ℕ) (all : CampaignView) (made ks : List (Case ScriptView)) → campaign text ≡ Ok all → IsDistinct all → All (λ c. IsCase c.1) all
-    → AreCases all made → have_names case_name choice.only.items made ≡ true → ks ≡ chosen case_name choice.only.items choice.shard made → AreReady choice text ks
+    → AreCases all made → have_names case_name choice.only.items made ≡ true → ks ≡ chosen case_name choice.only.items choice.shard made → AreReadyAs (AreChosen choice text) ks
 ready choice text all made ks spelled distinct lawful each have are =
     let only = choice.only.items in
     let shard = choice.shard in record {
@@ -177,10 +177,9 @@ still_ready Are ks rs are same =
 
 -- a name that they do not have is one that the script does not have
 pub unready : (choice : Choice) (text : List ℕ) (all : CampaignView) (made : List (Case ScriptView)) (fault : RunFault) → campaign text ≡ Ok all → AreCases all made
-    → RefusesNames (have_names case_name choice.only.items made) fault → RefusesChoice choice text fault
-unready choice text all made RunFault.Only spelled each have = (all, spelled, same_names choice.only.items all made each ∙ have)
-unready choice text all made RunFault.NoMemory spelled each have = tt
-unready choice text all made fault spelled each have = absurd have
+    → (fault ≡ RunFault.NoMemory) ⊎ ((fault ≡ RunFault.Only) × (have_names case_name choice.only.items made ≡ false)) → RefusesChoice choice text fault
+unready choice text all made fault spelled each (inl is) = subst (RefusesChoice choice text) (sym is) tt
+unready choice text all made fault spelled each (inr why) = subst (RefusesChoice choice text) (sym why.0) (all, spelled, same_names choice.only.items all made each ∙ why.1)
 
 -- the number of a line, and the words after it
 pub at_place : (line : ℕ) (words : List ℕ) → place_text line ++ words ≡ codes "line " ++ (decimal line ++ (codes ": " ++ words))

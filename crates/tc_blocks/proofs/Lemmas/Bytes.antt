@@ -3,6 +3,7 @@ use Rattle.std.{proofs.{Common.{ℕ, ◌≡◌, ◌∙◌, ◌<◌, ◌^◌, ◌
 use Rattle.tc_rules.specs.Prelude.{Verdict, name_of, given, IsBehaviours, IsName, is_name_byte, fault_name, Comp, Entry, Group, Target, Op, Fault, Reply}
 use Rattle.tc_text.{specs.Prelude.{lines_of, is_plain, AreComps, EndsLine, IsGroup, IsOp, IsReply, IsTarget, args_text, group_text, move_text, op_text, reply_text, start_text, target_text}, proofs.Lemmas.{Digits.{both, spelled_digits}, LinesOf.{NoLf, first_line}}}
 use Rattle.tc_blocks.specs.{Block.{header_text, kind_text}, HistoryBlock.{end_text, entry_text}, HistoryText.IsEntry, Inside.{all_lines, is_text_byte, mark_text}, Laws.is_quiet_byte, Line.{line_text, naming_text, said_text}, Text.{AreBlocks, AreEvidence, AreLines, IsHeader, IsLine, block_lines, format_of}, declared.{block.Block.Block, header.{Header.Header, Kind.Kind}, line.Line.Line}}
+use Rattle.tc_entry.proofs.Lemmas.Names.{name_parts}
 
 abbrev pub AreQuiet : List ℕ → Type 0
 AreQuiet bs = list_all is_quiet_byte bs ≡ true
@@ -41,7 +42,7 @@ name_bytes_quiet (b ∷ bs) all =
     (name_bytes_quiet bs (All-tail (λ x. IsTrue (is_name_byte x)) b bs all))
 
 pub name_quiet : (name : List ℕ) → IsName name → AreQuiet name
-name_quiet name is = name_bytes_quiet name is.allowed
+name_quiet name is = name_bytes_quiet name (name_parts name is).allowed
 
 -- ---- the parts of an entry
 

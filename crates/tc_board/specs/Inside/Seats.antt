@@ -1,5 +1,5 @@
 -- The views of the seats: each hand has one, and the keeper.
-use Rattle.std.specs.Prelude.{ℕ, zero, suc, true, false, List, [], ◌∷◌, ◌++◌, replicate, slice_set}
+use Rattle.std.specs.{Prelude.{ℕ, zero, suc, true, false, List, [], ◌∷◌, ◌++◌, replicate, slice_get, slice_set}, Option.option_map_or}
 use Rattle.tc_entry.specs.Prelude.{UserVerdict}
 use Rattle.tc_board.specs.{Board.first_answers, declared.answer.Answer.Answer, declared.answer.AnswerList.AnswerList, declared.record.Record.Record, declared.record.Record.TheVariants.Open, declared.record.Record.TheVariants.Unbegun, declared.rule.View.View}
 
@@ -9,8 +9,7 @@ list run answers = record { run = run; answers = answers }
 
 -- the answers of the first of these lists
 abbrev pub answers_of : List AnswerList → List Answer
-answers_of [] = []
-answers_of (l ∷ ls) = l.answers
+answers_of lists = option_map_or (λ l. l.answers) (slice_get lists 0) []
 
 -- the view of a hand
 abbrev pub hand_view : ℕ → List Answer → View
@@ -23,16 +22,6 @@ keeper_view records lists = record { lists = lists; is_keeper = true; records = 
 -- the view that a seat is left with whose hand was taken back
 abbrev pub spent_view : View
 spent_view = record { lists = []; is_keeper = false; records = [] }
-
--- the first record of the word of a run
-abbrev pub first_record : ℕ → Record
-first_record zero = Open UserVerdict.None
-first_record (suc run) = Unbegun
-
--- the first records of n words, from this run on
-abbrev pub first_records : ℕ → ℕ → List Record
-first_records run zero = []
-first_records run (suc n) = first_record run ∷ first_records (suc run) n
 
 -- the first lists of n hands, from this run on
 abbrev pub first_lists : ℕ → ℕ → List AnswerList

@@ -1,12 +1,12 @@
 -- What only the way the words are settled needs: no public clause names a word of this file.
-use Rattle.std.specs.{Prelude.{ℕ, ◌≡◌, ◌<◌, Bool, true, false, Option, Some, List, [], ◌∷◌, length, set, None}, Option.{option_and_then, option_map_or}}
+use Rattle.std.specs.{Prelude.{ℕ, ◌≡◌, ◌<◌, Bool, true, false, Option, Some, List, [], ◌∷◌, is_some, length, set, None}, Option.{option_and_then, unwrap_or}}
 use Rattle.tc_rules.specs.Prelude.{Run, UserVerdict, Comp, Entry, Op, Reply, comp_of, is_active, last_run}
 use Rattle.tc_board.specs.declared.record.Record.{Record, TheVariants.Closed, TheVariants.Open, TheVariants.Unbegun}
-use Rattle.tc_book.specs.Words.{IsWordOf, record_at, carried, is_closed, run_before, closing}
+use Rattle.tc_book.specs.Words.{IsWordOf, record_at, carried, run_before, closing}
 
 -- what the close of this run's word gave: none if there is no run
 abbrev pub left_by : List Record → Option Run → UserVerdict
-left_by words last = option_map_or (λ run. closing (record_at words run.0)) last UserVerdict.None
+left_by words last = unwrap_or (option_and_then (λ run. closing (record_at words run.0)) last) UserVerdict.None
 
 -- the last run on this component, if there is one
 abbrev pub last_on : List Entry → Option Comp → Option Run
@@ -33,7 +33,7 @@ pub record Lags (past : List Entry) (words : List Record) (b : ℕ) : Type 0 whe
 pub record WordsLag (n : ℕ) (past : List Entry) (words : List Record) (i : ℕ) : Type 0 where
   pub as_many : length words ≡ n
   pub each : (b : ℕ) → b < n → Lags past words b
-  pub before : (b : ℕ) (a : Run) → run_before past b ≡ Some a → is_closed (record_at words a.0) ≡ true
+  pub before : (b : ℕ) (a : Run) → run_before past b ≡ Some a → is_some (closing (record_at words a.0)) ≡ true
   pub settled : (b : ℕ) → b < i → is_open (record_at words b) ≡ true → is_active past b ≡ true
 
 -- the word of a run that is started by this call is unbegun

@@ -2,7 +2,7 @@
 ghost use Rattle.std.specs.Prelude.{◌≡◌, ◌≤◌, [], IfOk, IfErr, Err, All, reverse};
 ghost use Rattle.tc_entry.specs.declared.limits.TheConstants.{BEHAVIOURS};
 ghost use Rattle.tc_rules.specs.Prelude.{StandsFor, IsLegal, IsOneHistory, merge};
-ghost use Rattle.tc_book.specs.{Closing.IsAgreed, Closing.IsMerged, Closing.IsOneEach, Closing.IsWhole, Closing.merged, Inside.CameBack, Inside.IsJoined, Inside.IsTornRightly, Inside.IsSound};
+ghost use Rattle.tc_book.specs.{Closing.Agrees, Closing.IsMerged, Closing.IsOneEach, Closing.IsWhole, Closing.merged, Inside.CameBack, Inside.IsJoined, Inside.IsTornRightly, Inside.IsSound, Words.record_at};
 
 use crate::book::Book;
 use crate::close::{all_agreed, are_placed};
@@ -117,7 +117,8 @@ impl Book {
         ensures whole { IfOk result (λ _. IsMerged self.now lefts.items) }
         ensures torn { IfErr result (λ f. f ≡ CloseFault.Torn → IsMerged self.now lefts.items → ⊥) }
         ensures runs { result ≡ Err CloseFault.NoMemory → IsOneEach self.now.behaviours lefts.items }
-        ensures words { result ≡ Err CloseFault.NoMemory → All (IsAgreed self.now.words) lefts.items }
+        ensures words { result ≡ Err CloseFault.NoMemory
+            → All (λ l. Agrees (record_at self.now.words l.run.0) l.log) lefts.items }
         ensures behaviours { IfOk result (λ c. c.behaviours ≡ self.now.behaviours) }
         ensures history { IfOk result (λ c. c.history ≡ merged self.now.history lefts.items) }
         ensures report { IfOk result (λ c. IsOneHistory c) }

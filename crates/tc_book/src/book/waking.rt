@@ -2,7 +2,7 @@
 ghost use Rattle.std.specs.Prelude.{◌≡◌, ◌≢◌, ◌&&◌, not, true, false, IfOk, IfSome, OnErr, OnSome, IfNone, IsTrue};
 ghost use Rattle.tc_rules.specs.Prelude.{is_verdict_call, waiting};
 ghost use Rattle.tc_rules.specs.Laws as laws;
-ghost use Rattle.tc_book.specs.{Inside.goes_on, Inside.newest_wakes, Inside.parked_goes_on, Inside.wakes, OpenCase.NobodyWakes, OpenCase.WouldPark, OpenCase.has_wake, OpenCase.open_past, OpenCase.places_after, OpenCase.reply_to, OpenCase.with_entry, OpenCase.without_wake};
+ghost use Rattle.tc_book.specs.{Inside.goes_on, Inside.newest_wakes, Inside.parked_goes_on, Inside.wakes, OpenCase.NobodyWakes, OpenCase.WouldPark, OpenCase.open_past, OpenCase.places_after, OpenCase.places_at, OpenCase.reply_to, OpenCase.with_entry, OpenCase.without_wake};
 
 use crate::book::Book;
 use crate::until::Until;
@@ -47,8 +47,8 @@ impl Book {
     pub fn call_wake(&mut self, run: Run, killed: bool, target: Target) -> Option<(Reply, bool)>
         ensures behaviours { self.new.behaviours ≡ self.old.behaviours }
         ensures none { IfNone result (self.new ≡ self.old) }
-        ensures asleep { IfNone result (has_wake self.old run ≡ true → WouldPark self.old run killed target) }
-        ensures kept { OnSome result (IsTrue (has_wake self.old run)) }
+        ensures asleep { IfNone result ((places_at self.old.places run).wake ≡ true → WouldPark self.old run killed target) }
+        ensures kept { OnSome result (IsTrue (places_at self.old.places run).wake) }
         ensures awake { IfSome result (λ r. r.0 ≢ Reply.Parked) }
         ensures reply { IfSome result (λ r. r.0 ≡ reply_to self.old run (Op.Wake killed target)) }
         ensures history { IfSome result (λ r. self.new.history ≡ with_entry self.old run (Op.Wake killed target) r.0) }

@@ -1,21 +1,21 @@
 -- What a live writer has written and counted, test case by test case.
-use Rattle.std.{proofs.{Common.{ℕ, ◌≡◌, ◌∙◌, Bool, List, [], ◌∷◌, ◌++◌, Option, Some, None, map, sym, ap, subst, append_assoc}, lemmas.List.append-nil}, specs.{Prelude.IsSomeAnd, Io.KnownBytes.Appends}}
+use Rattle.std.{proofs.{Common.{ℕ, ◌≡◌, ◌∙◌, Bool, true, List, [], ◌∷◌, ◌++◌, Option, Some, None, map, sym, ap, subst, append_assoc}, lemmas.List.append-nil}, specs.{Prelude.IsSomeAnd, Io.KnownBytes.Appends}}
 use Rattle.tc_rules.specs.Prelude.{worse, Verdict}
 use Rattle.tc_stream.specs.Prelude.{AppendsPrefix}
-use Rattle.tc_report.{specs.{Inside.{IsEndedAt, form_text, text_so_far}, Live.{IsWritten, Writes, closing_text, opening_text, part_text}, Observers.AreTaken, Output.LeavesPrefix, Report.tally_of_cases, Status.{ending_status, results_status, worst_of}, Summary.case_summary, declared.{fault.OutFault.OutFault, live.{LiveForm.LiveForm, LiveWriter.LiveWriter}, results.{CampaignEnd.CampaignEnd, Finished.Finished}}}, proofs.{Overalls.worst_more, Writing.{appends_both, left_is_prefix, prefix_behind, prefix_longer, so_far_more, whole_text}}}
+use Rattle.tc_report.{specs.{Inside.{IsEndedAt, form_text, text_so_far}, Live.{Writes, form_parts}, Observers.AreTaken, Output.LeavesPrefix, Report.tally_of_cases, Status.{ending_status, results_status, worst_of}, Summary.case_summary, declared.{fault.OutFault.OutFault, live.{LiveForm.LiveForm, LiveWriter.LiveWriter}, results.{CampaignEnd.CampaignEnd, Finished.Finished}}}, proofs.{Overalls.worst_more, Writing.{appends_both, left_is_prefix, prefix_behind, prefix_longer, so_far_more, whole_text}}}
 
 -- a prefix of what comes up to some test case is one of the whole text
 cut_left : (form : LiveForm) (start after : Option (List ℕ)) (fs : List Finished) (ending : CampaignEnd) → AppendsPrefix start after (text_so_far form fs)
     → AppendsPrefix start after (form_text form (record { finished = fs; ending = ending }))
 cut_left form start after fs ending left =
-    subst (AppendsPrefix start after) (whole_text form fs ending) (prefix_longer start after (text_so_far form fs) (closing_text form (tally_of_cases fs) ending) left)
+    subst (AppendsPrefix start after) (whole_text form fs ending) (prefix_longer start after (text_so_far form fs) ((form_parts form).2 (tally_of_cases fs) ending) left)
 
 -- what is before the test cases was not written whole
-pub opening_left : (form : LiveForm) (start after : Option (List ℕ)) (fault : OutFault) (ending : CampaignEnd) → LeavesPrefix start after (opening_text form) fault
+pub opening_left : (form : LiveForm) (start after : Option (List ℕ)) (fault : OutFault) (ending : CampaignEnd) → LeavesPrefix start after (form_parts form).0 fault
     → AppendsPrefix start after (form_text form (record { finished = []; ending = ending }))
 opening_left form start after fault ending left =
     cut_left form start after [] ending
-    (subst (AppendsPrefix start after) (sym (append-nil (opening_text form))) (left_is_prefix start after (opening_text form) fault left))
+    (subst (AppendsPrefix start after) (sym (append-nil (form_parts form).0)) (left_is_prefix start after (form_parts form).0 fault left))
 
 -- what a fault leaves is a prefix, whichever it is
 some_left : (before after : Option (List ℕ)) (text : List ℕ) (fault : Option OutFault) → IsSomeAnd fault (LeavesPrefix before after text) → AppendsPrefix before after text
@@ -31,23 +31,23 @@ module _ {W : Type 0} (contents : W → Option (List ℕ)) where
     pub worst_is : l.worst ≡ worst_of (map case_summary fs)
 
   -- where it is when only what is before the test cases was written
-  pub begun : (form : LiveForm) (start : Option (List ℕ)) (l : LiveWriter W) → l.form ≡ form → Appends start (contents l.writer.now) (opening_text form)
+  pub begun : (form : LiveForm) (start : Option (List ℕ)) (l : LiveWriter W) → l.form ≡ form → Appends start (contents l.writer.now) (form_parts form).0
       → l.tally ≡ tally_of_cases [] → l.worst ≡ Verdict.None → IsAt form start [] l
   begun form start l same out tally worst = record {
     form_is = same;
-    out = subst (Appends start (contents l.writer.now)) (sym (append-nil (opening_text form))) out;
+    out = subst (Appends start (contents l.writer.now)) (sym (append-nil (form_parts form).0)) out;
     tally = tally;
     worst_is = worst;
   }
 
   one_more : (form : LiveForm) (start : Option (List ℕ)) (fs : List Finished) (f : Finished) (before after : LiveWriter W)
-      → IsAt form start fs before → IsWritten contents before f after → IsAt form start (fs ++ f ∷ []) after
+      → IsAt form start fs before → Writes contents before f after true → IsAt form start (fs ++ f ∷ []) after
   one_more form start fs f before after at one = record {
-    form_is = one.form ∙ at.form_is;
+    form_is = one.0 ∙ at.form_is;
     out = subst (Appends start (contents after.writer.now)) (so_far_more form fs f)
-        (appends_both start (contents before.writer.now) (contents after.writer.now) (text_so_far form fs) (part_text form f) at.out (subst (λ k. Appends (contents before.writer.now) (contents after.writer.now) (part_text k f)) at.form_is one.out));
-    tally = one.tally fs at.tally;
-    worst_is = one.worst ∙ ap (λ w. worse w f.report.verdict) at.worst_is ∙ worst_more fs f;
+        (appends_both start (contents before.writer.now) (contents after.writer.now) (text_so_far form fs) ((form_parts form).1 f) at.out (subst (λ k. Appends (contents before.writer.now) (contents after.writer.now) ((form_parts k).1 f)) at.form_is one.1));
+    tally = one.2 fs at.tally;
+    worst_is = one.3 ∙ ap (λ w. worse w f.report.verdict) at.worst_is ∙ worst_more fs f;
   }
 
   -- what a test case does to an observer that writes live
@@ -71,9 +71,9 @@ module _ {W : Type 0} (contents : W → Option (List ℕ)) where
       → AppendsPrefix start (contents after.writer.now) (text_so_far form fs) × (after.writer.ghost_name ≡ before.writer.ghost_name)
   ended_at form start fs before after at ended =
       let others = all_at form start [] ended.others before ended.between at ended.each in
-      let part = some_left (contents ended.between.writer.now) (contents after.writer.now) (part_text ended.between.form ended.last) after.fault ended.at_last.0.left in
-      let behind = prefix_behind start (contents ended.between.writer.now) (contents after.writer.now) (text_so_far form ended.others) (part_text form ended.last)
-      others.0.out (subst (λ k. AppendsPrefix (contents ended.between.writer.now) (contents after.writer.now) (part_text k ended.last)) others.0.form_is part) in (
+      let part = some_left (contents ended.between.writer.now) (contents after.writer.now) ((form_parts ended.between.form).1 ended.last) after.fault ended.at_last.0.3 in
+      let behind = prefix_behind start (contents ended.between.writer.now) (contents after.writer.now) (text_so_far form ended.others) ((form_parts form).1 ended.last)
+      others.0.out (subst (λ k. AppendsPrefix (contents ended.between.writer.now) (contents after.writer.now) ((form_parts k).1 ended.last)) others.0.form_is part) in (
         subst (λ l. AppendsPrefix start (contents after.writer.now) (text_so_far form l)) (sym ended.all)
             (subst (AppendsPrefix start (contents after.writer.now)) (so_far_more form ended.others ended.last) behind),
         ended.at_last.1 ∙ others.1,
@@ -90,23 +90,23 @@ module _ {W : Type 0} (contents : W → Option (List ℕ)) where
       last = (all_at form start [] finished before after first taken).0
 
       -- if it let the campaign continue, the text of the results is out with what follows the test cases
-      pub all_written : (now : Option (List ℕ)) → Appends (contents after.writer.now) now (closing_text after.form after.tally ending)
+      pub all_written : (now : Option (List ℕ)) → Appends (contents after.writer.now) now ((form_parts after.form).2 after.tally ending)
           → Appends start now (form_text form (record { finished = finished; ending = ending }))
       all_written now out =
           subst (Appends start now) (whole_text form finished ending)
-          (appends_both start (contents after.writer.now) now (text_so_far form finished) (closing_text form (tally_of_cases finished) ending) last.out
-          (subst (λ t. Appends (contents after.writer.now) now (closing_text form t ending)) last.tally
-          (subst (λ k. Appends (contents after.writer.now) now (closing_text k after.tally ending)) last.form_is out)))
+          (appends_both start (contents after.writer.now) now (text_so_far form finished) ((form_parts form).2 (tally_of_cases finished) ending) last.out
+          (subst (λ t. Appends (contents after.writer.now) now ((form_parts form).2 t ending)) last.tally
+          (subst (λ k. Appends (contents after.writer.now) now ((form_parts k).2 after.tally ending)) last.form_is out)))
 
       -- and a prefix of it if that was not written whole
-      pub closing_left : (now : Option (List ℕ)) (fault : OutFault) → LeavesPrefix (contents after.writer.now) now (closing_text after.form after.tally ending) fault
+      pub closing_left : (now : Option (List ℕ)) (fault : OutFault) → LeavesPrefix (contents after.writer.now) now ((form_parts after.form).2 after.tally ending) fault
           → AppendsPrefix start now (form_text form (record { finished = finished; ending = ending }))
       closing_left now fault left =
           subst (AppendsPrefix start now) (whole_text form finished ending)
-          (prefix_behind start (contents after.writer.now) now (text_so_far form finished) (closing_text form (tally_of_cases finished) ending) last.out
-          (left_is_prefix (contents after.writer.now) now (closing_text form (tally_of_cases finished) ending) fault
-          (subst (λ t. LeavesPrefix (contents after.writer.now) now (closing_text form t ending) fault) last.tally
-          (subst (λ k. LeavesPrefix (contents after.writer.now) now (closing_text k after.tally ending) fault) last.form_is left))))
+          (prefix_behind start (contents after.writer.now) now (text_so_far form finished) ((form_parts form).2 (tally_of_cases finished) ending) last.out
+          (left_is_prefix (contents after.writer.now) now ((form_parts form).2 (tally_of_cases finished) ending) fault
+          (subst (λ t. LeavesPrefix (contents after.writer.now) now ((form_parts form).2 t ending) fault) last.tally
+          (subst (λ k. LeavesPrefix (contents after.writer.now) now ((form_parts k).2 after.tally ending) fault) last.form_is left))))
 
       -- and the status is that of the results
       pub status_at : ending_status ending after.worst ≡ results_status (record { finished = finished; ending = ending })

@@ -1,9 +1,9 @@
 -- What was printed of test cases as they finished, test case by test case.
-use Rattle.std.{proofs.{Common.{ℕ, ◌≡◌, ◌∙◌, ◌+◌, arith, Bool, true, false, List, [], ◌∷◌, ◌++◌, Option, Some, None, Result, Ok, Err, OnOk, OnErr, codes, filter, if◌then◌else◌, length, refl, sym, ap, ap₂, subst, append_assoc, map, reverse, take}, lemmas.List.{Concat.flat_map-append, Elements.filter-append, append-nil}}, specs.{Io.KnownBytes.{Appends, Keeps}, List.{AllZip, enumerate_from, flat_map}}}
+use Rattle.std.{proofs.{Common.{ℕ, ◌≡◌, ◌∙◌, ◌+◌, arith, Bool, true, false, List, [], ◌∷◌, ◌++◌, Option, Some, None, Result, Ok, Err, OnOk, OnErr, codes, filter, if◌then◌else◌, length, refl, sym, ap, ap₂, subst, append_assoc, map, reverse}, lemmas.List.{Concat.flat_map-append, Elements.filter-append, append-nil}}, specs.{Io.KnownBytes.{Appends, Keeps}, List.{AllZip, enumerate_from, flat_map}}}
 use Rattle.tc_stream.specs.Prelude.{AppendsPrefix}
 use Rattle.tc_blocks.specs.{Prelude.entries_of, declared.{block.Block.Block, header.Kind.Kind, line.Line.Line}}
-use Rattle.tc_report.{specs.{Inside.{IsEndedAt, IsOneMore, IsSoFar, after_verdict, again_by, namings, said_with}, Observers.{AreTaken, KeepsTimes}, Progress.{HasTold, AreLinesOf, IsToldBy, TellsProgress, again_lines, begun_text, closing_lines, finished_line, finished_text, is_failure, last_line}, Report.tally_of_cases, Blocks.{block_names, name_lines}, InWords.namings_of, Said.{named_in, remarks_from, said_in}, Summary.{IsBlockOf, SummariesOfBlocks, block_summary, summary_of, written_summary}, declared.{fault.OutFault.OutFault, progress.{Progress.Progress, Shown.Shown}, results.{CaseEnd.CaseEnd, Finished.Finished, Tally.Tally}, naming.Naming.Naming, said.{Remark.Remark, Said.Said}}}, proofs.Writing.{appends_both, prefix_behind, prefix_longer}}
-use Rattle.tc_rules.specs.Prelude.{Entry, is_over, overall}
+use Rattle.tc_report.{specs.{Inside.{IsEndedAt, IsOneMore, IsSoFar, after_verdict, again_by, namings, said_with}, Observers.{AreTaken, KeepsTimes}, Progress.{HasTold, AreLinesOf, IsToldBy, again_lines, begun_text, finished_line, finished_text, is_failure, last_line}, Report.tally_of_cases, Blocks.{block_names, name_lines}, InWords.namings_of, Said.{named_in, remarks_from, said_in}, Summary.{IsBlockOf, SummariesOfBlocks, block_summary, summary_of, written_summary}, declared.{fault.OutFault.OutFault, progress.{Progress.Progress, Shown.Shown}, results.{CaseEnd.CaseEnd, Finished.Finished, Tally.Tally}, naming.Naming.Naming, said.{Remark.Remark, Said.Said}}}, proofs.Writing.{appends_both, prefix_behind, prefix_longer}}
+use Rattle.tc_rules.{specs.Prelude.{Entry, is_over, local, overall}, proofs.Lemmas.Numbered.comps_numbered}
 
 nothing : (o : Option (List ℕ)) → Appends o o []
 nothing None = tt
@@ -118,7 +118,7 @@ module _ (shown : Bool × List (List ℕ)) (start now later : Option (List ℕ))
       let cases : tally.cases ≡ length fs = ap (λ t. t.cases) count in let here : 0 + length fs ≡ tally.cases = omega (arith, cases) in
       subst (λ n. AreLinesOf shown 0 fs true (text ++ begun_text shown n)) here (begins shown 0 fs text (subst (λ b. AreLinesOf shown 0 fs b text) (sym same) is))
 
-  ends : (time : Option (ℕ × ℕ)) → tally ≡ tally_of_cases fs → again ≡ again_lines shown.0 fs → again ++ last_line time tally ≡ closing_lines shown.0 time fs
+  ends : (time : Option (ℕ × ℕ)) → tally ≡ tally_of_cases fs → again ≡ again_lines shown.0 fs → again ++ last_line time tally ≡ again_lines shown.0 fs ++ last_line time (tally_of_cases fs)
   ends time count kept = ap₂ (λ l t. l ++ last_line time t) kept count
 
   -- a test case begins
@@ -182,13 +182,14 @@ module _ (shown : Bool × List (List ℕ)) (start now : Option (List ℕ)) (fs :
       )
 
   pub cut_told : (fault : OutFault) → IsCut shown start fs now → IsToldBy true shown start now fs (Err fault)
-  cut_told fault (b, text, is, part) = (b, text, None, is, tt, prefix_longer start now text (closing_lines shown.0 None fs) part)
+  cut_told fault (b, text, is, part) = (b, text, None, is, tt, prefix_longer start now text (again_lines shown.0 fs ++ last_line None (tally_of_cases fs)) part)
 
 module _ {O E C : Type 0} (contents : E → Option (List ℕ)) (takes : O → Finished → O → Bool → Type 0) where
   -- what a test case does to a `Progress`, and to the observer that it passes it on to
   abbrev pub Takes : Progress O E C → Finished → Progress O E C → Bool → Type 0
   Takes before f after goes_on =
-      takes before.observer.now f after.observer.now goes_on × TellsProgress contents before f after
+      takes before.observer.now f after.observer.now goes_on
+      × ((start : Option (List ℕ)) (fs : List Finished) → HasTold contents start fs before → HasTold contents start (fs ++ f ∷ []) after)
       × KeepsTimes before.watch.now.cases 1 after.watch.now.cases × (after.watch.ghost_name ≡ before.watch.ghost_name)
       × (after.observer.ghost_name ≡ before.observer.ghost_name) × (after.writer.ghost_name ≡ before.writer.ghost_name)
       × (after.failed.ghost_name ≡ before.failed.ghost_name) × (after.shown ≡ before.shown)
@@ -256,34 +257,23 @@ abbrev said_mk : List Naming → List Remark → Said
 said_mk names remarks = record { names = names; remarks = remarks }
 
 -- what a block that a run writes says
-said_so : (run : ℕ) (names : List (List ℕ)) (es : List Entry)
-    → said_in (namings run names ++ map Line.Entry es) ≡ said_mk (map (λ p. record { run = p.0; name = p.1 }) (enumerate_from run names)) []
-said_so run names es = ap₂ said_mk (named_all run names es) (no_remarks 0 run names es)
-
--- what such a block of a finished test case says
-abbrev said_of : Kind → Finished → Said
-said_of kind f = said_mk (namings_of (block_names kind f)) []
-
-said_written : (kind : Kind) (f : Finished) → said_in (name_lines (block_names kind f) ++ map Line.Entry f.report.history) ≡ said_of kind f
-said_written Kind.Evidence f = said_so 0 (take f.report.behaviours f.names) f.report.history
-said_written Kind.History1 f = said_so 0 [] f.report.history
-said_written Kind.History2 f = said_so 0 [] f.report.history
+said_so : (names : List (List ℕ)) (es : List Entry) → said_in (name_lines names ++ map Line.Entry es) ≡ said_mk (namings_of names) []
+said_so names es = ap₂ said_mk (named_all 0 names es) (no_remarks 0 0 names es)
 
 -- the entries of such a block are those of the test case
 pub entries_written : (kind : Kind) (f : Finished) → entries_of (name_lines (block_names kind f) ++ map Line.Entry f.report.history) ≡ f.report.history
-entries_written Kind.Evidence f = after_namings 0 (take f.report.behaviours f.names) f.report.history
-entries_written Kind.History1 f = after_namings 0 [] f.report.history
-entries_written Kind.History2 f = after_namings 0 [] f.report.history
+entries_written kind f = after_namings 0 (block_names kind f) f.report.history
 
 pub one_same : (kind : Kind) (f : Finished) (b : Block) → IsBlockOf kind f b → block_summary b ≡ written_summary kind f
 one_same kind f b is =
     let past = reverse f.report.history in
     let ended : (if is_over past then CaseEnd.Over (overall past) else CaseEnd.Unfinished) ≡ CaseEnd.Over f.report.verdict = rw (is.report.over, is.report.verdict) refl in
-    let said = ap said_in is.lines ∙ said_written kind f in
+    let said_of = said_mk (namings_of (block_names kind f)) [] in
+    let said = ap said_in is.lines ∙ said_so (block_names kind f) f.report.history in
     let entries = ap entries_of is.lines ∙ entries_written kind f in
     ap (λ (x : Said). summary_of b.header.name b.header.behaviours (entries_of b.lines) x) said
-    ∙ (ap (λ (es : List Entry). summary_of b.header.name b.header.behaviours es (said_of kind f)) entries
-    ∙ (ap₂ (λ (name : List ℕ) (n : ℕ). summary_of name n f.report.history (said_of kind f)) is.name is.behaviours ∙ rw (is.report.locals, ended) refl))
+    ∙ (ap (λ (es : List Entry). summary_of b.header.name b.header.behaviours es said_of) entries
+    ∙ (ap₂ (λ (name : List ℕ) (n : ℕ). summary_of name n f.report.history said_of) is.name is.behaviours ∙ rw (is.report.locals ∙ ap (map (local past)) (sym (comps_numbered f.report.behaviours past is.report.legal)), ended) refl))
 
 all_same : (kind : Kind) (fs : List Finished) (bs : List Block) → AllZip (IsBlockOf kind) fs bs → map block_summary bs ≡ map (written_summary kind) fs
 all_same kind [] [] each = refl
@@ -308,17 +298,11 @@ remarks_more at (Line.Refused run said ∷ ls) l = remarks_more at ls l
 named_last : (ls : List Line) (l : Line) → flat_map named_in (ls ++ l ∷ []) ≡ flat_map named_in ls ++ named_in l
 named_last ls l = flat_map-append named_in ls (l ∷ []) ∙ ap (λ (x : List Naming). flat_map named_in ls ++ x) (append-nil (named_in l))
 
--- a line that is neither a name nor a remark
-silent_more : (ls : List Line) (l : Line) → named_in l ≡ [] → remarks_from (0 + length (entries_of ls)) (l ∷ []) ≡ [] → said_in (ls ++ l ∷ []) ≡ said_in ls
-silent_more ls l nameless still =
-    ap₂ said_mk (named_last ls l ∙ (ap (λ (x : List Naming). flat_map named_in ls ++ x) nameless ∙ append-nil (flat_map named_in ls)))
-    (remarks_more 0 ls l ∙ (ap (λ (x : List Remark). remarks_from 0 ls ++ x) still ∙ append-nil (remarks_from 0 ls)))
-
 pub said_more : (ls : List Line) (l : Line) → said_in (ls ++ l ∷ []) ≡ said_with (said_in ls) (length (entries_of ls)) l
-said_more ls (Line.Named run name) = ap₂ said_mk (named_last ls (Line.Named run name)) (remarks_more 0 ls (Line.Named run name) ∙ append-nil (remarks_from 0 ls))
-said_more ls (Line.Entry e) = silent_more ls (Line.Entry e) refl refl
-said_more ls (Line.Remark run said) =
+said_more ls l =
     let same : 0 + length (entries_of ls) ≡ length (entries_of ls) = omega arith in
-    ap₂ said_mk (named_last ls (Line.Remark run said) ∙ append-nil (flat_map named_in ls))
-    (remarks_more 0 ls (Line.Remark run said) ∙ ap (λ k. remarks_from 0 ls ++ remarks_from k (Line.Remark run said ∷ [])) same)
-said_more ls (Line.Refused run said) = silent_more ls (Line.Refused run said) refl refl
+    ap₂ said_mk (named_last ls l) (remarks_more 0 ls l ∙ ap (λ k. remarks_from 0 ls ++ remarks_from k (l ∷ [])) same)
+
+-- an entry says nothing next to it
+pub entry_says : (s : Said) (at : ℕ) (e : Entry) → s ≡ said_with s at (Line.Entry e)
+entry_says s at e = ap₂ said_mk (sym (append-nil s.names)) (sym (append-nil s.remarks))

@@ -1,8 +1,8 @@
 -- What the deciding entry says of the overall verdict.
-use Rattle.std.{proofs.{Common.{ℕ, ◌≡◌, ◌+◌, ◌<◌, ◌≤◌, ◌↔◌, ◌==◌, ◌||◌, if◌then◌else◌, nat_lt, Bool, true, false, Option, Some, None, List, [], ◌∷◌, ◌++◌, IfSome, length, map, take, get_or, reverse, refl, ap, subst, sym, ◌∙◌, arith, length-append}, lemmas.{Bool.Decides.nat_tests, List.{length-reverse, length-take-le, map-append, reverse-append, take_all, take_more}}}, specs.{List.flat_map, Option.MatchOption}}
-use Rattle.tc_entry.specs.{Prelude.{Verdict, level_of, worse, worst, is_ended}, declared.comp.Comp.Comp, declared.entry.Entry.Entry, declared.op.Op.Op, declared.reply.Reply.Reply}
+use Rattle.std.{proofs.{Common.{ℕ, ◌≡◌, ◌+◌, ◌<◌, ◌≤◌, ◌↔◌, ◌==◌, ◌||◌, ◌&&◌, if◌then◌else◌, nat_lt, Bool, true, false, Option, Some, None, List, [], ◌∷◌, ◌++◌, IfSome, length, map, take, get_or, reverse, refl, ap, subst, sym, ◌∙◌, arith, length-append}, lemmas.{Bool.Decides.nat_tests, List.{length-reverse, length-take-le, map-append, reverse-append, take_all, take_more}}}, specs.{List.flat_map, Option.MatchOption}}
+use Rattle.tc_entry.specs.{Prelude.{Verdict, level_of, worse, worst, is_ended, is_fault, is_ok}, declared.comp.Comp.Comp, declared.entry.Entry.Entry, declared.op.Op.Op, declared.reply.Reply.Reply}
 use Rattle.tc_verdict.proofs.Lemmas.Order.{none_no_worse, worse_later, worse_left, worse_swap, worst-more}
-use Rattle.tc_rules.{specs.{Deciding.{deciding, worst_given}, History.{add_new, comp_of, comps, created, exists, is_comp, is_in}, Inside.Step.next_local, Legal.IsLegal, Local.{gives, local, overall, verdicts_of}}, proofs.{Lemmas.Deciding.equal_if, Lemmas.Differing.later_legal, Lemmas.LawsOfHistories.answered_is_running, Elsewhere.local_le, Lemmas.Over.{on_existing, stays}, Lemmas.Steps.worst-append, Lemmas.Stuck.is_in_comps, Named.map_same}}
+use Rattle.tc_rules.{specs.{Deciding.{deciding, worst_given}, History.{add_new, comp_of, comps, created, exists, is_comp, is_in, is_stop_case}, Inside.Step.next_local, Legal.IsLegal, Local.{gives, local, overall, verdicts_of}}, proofs.{Lemmas.Deciding.{equal_if, gives_nothing, if_same}, Lemmas.Differing.later_legal, Lemmas.LawsOfHistories.answered_is_running, Elsewhere.local_le, Lemmas.Over.{on_existing, stays}, Lemmas.Steps.worst-append, Lemmas.Stuck.is_in_comps, Named.map_same}}
 
 -- a verdict after more that are given
 
@@ -136,11 +136,7 @@ unmade n (e ∷ past) c legal h =
 
 local_same : (past : List Entry) (e : Entry) (c : ℕ) → gives e.op e.reply ≡ [] → local (e ∷ past) c ≡ local past c
 unfolding local
-local_same past e c none = rw none (ap worst (by_test (is_comp (comp_of past e.caller.0) c)))
-  where
-    by_test : (t : Bool) → (if t then verdicts_of past c else verdicts_of past c) ≡ verdicts_of past c
-    by_test true = refl
-    by_test false = refl
+local_same past e c none = rw none (ap (λ vs. worst (vs ++ verdicts_of past c)) (if_same (is_comp (comp_of past e.caller.0) c) []))
 
 unchanged : (n : ℕ) (past : List Entry) (e : Entry) → IsLegal n (e ∷ past) → gives e.op e.reply ≡ [] → overall (e ∷ past) ≡ overall past
 unfolding overall exists
@@ -169,22 +165,23 @@ makes_none (Op.Create alive name) _ v vs h = refl
 makes_none _ reply v vs h = refl
 
 not_ended : (op : Op) (reply : Reply) (v : Verdict) (vs : List Verdict) → gives op reply ≡ v ∷ vs → is_ended reply ≡ false
-not_ended op Reply.Ended v vs h = absurd cc
+not_ended op Reply.Ended v vs h = let none = gives_nothing op Reply.Ended refl refl in absurd cc
 not_ended op _ v vs h = refl
 
 alone : (op : Op) (reply : Reply) (v : Verdict) (vs : List Verdict) → gives op reply ≡ v ∷ vs → vs ≡ []
-alone op (Reply.Fault f) v vs h = cc
 alone (Op.SetVerdict u) Reply.Ok v vs h = cc
-alone Op.StopCase Reply.Ok v vs h = cc
-alone _ Reply.Ok v vs h = absurd cc
-alone op _ v vs h = absurd cc
+alone op reply v vs h = by_test (is_fault reply || (is_stop_case op && is_ok reply)) h
+  where
+    by_test : (t : Bool) → (if t then Verdict.Error ∷ [] else []) ≡ v ∷ vs → vs ≡ []
+    by_test true h = cc
+    by_test false h = absurd cc
 
 local_worse : (past : List Entry) (e : Entry) (d : Comp) (v : Verdict) (c : ℕ) → comp_of past e.caller.0 ≡ Some d → gives e.op e.reply ≡ v ∷ [] →
     local (e ∷ past) c ≡ (if d.0 == c then worse (local past c) v else local past c)
 unfolding local
 local_worse past e d v c on one = rw (on, one) (by_test (d.0 == c))
   where
-    by_test : (t : Bool) → worst (if t then v ∷ verdicts_of past c else verdicts_of past c) ≡ (if t then worse (worst (verdicts_of past c)) v else worst (verdicts_of past c))
+    by_test : (t : Bool) → worst ((if t then v ∷ [] else []) ++ verdicts_of past c) ≡ (if t then worse (worst (verdicts_of past c)) v else worst (verdicts_of past c))
     by_test true = refl
     by_test false = refl
 

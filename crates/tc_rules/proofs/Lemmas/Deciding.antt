@@ -1,7 +1,7 @@
 -- Small facts on tests, options and operations, which several files need.
-use Rattle.std.proofs.{Common.{ℕ, ◌≡◌, ◌==◌, ◌&&◌, ◌<◌, ◌≤◌, if◌then◌else◌, Bool, true, false, Option, Some, None, is_some, refl, arith}, lemmas.Bool.Decides.nat_tests}
-use Rattle.tc_entry.specs.{declared.comp.Comp.Comp, declared.op.Op.Op, declared.reply.Reply.Reply, Prelude.is_ok}
-use Rattle.tc_rules.specs.{Inside.Words.first_some, History.is_comp, History.is_finish, History.is_kill_of, History.is_stop_case, History.is_stop_of, Inside.Laws.halting_op}
+use Rattle.std.proofs.{Common.{ℕ, ◌≡◌, ◌==◌, ◌&&◌, ◌||◌, ◌<◌, ◌≤◌, if◌then◌else◌, Bool, true, false, Option, Some, None, is_some, [], ◌∷◌, refl, arith}, lemmas.Bool.Decides.nat_tests}
+use Rattle.tc_entry.specs.{declared.comp.Comp.Comp, declared.op.Op.Op, declared.reply.Reply.Reply, Prelude.{Verdict, is_fault, is_ok}}
+use Rattle.tc_rules.specs.{Inside.Words.first_some, History.is_comp, History.is_finish, History.is_kill_of, History.is_stop_case, History.is_stop_of, Inside.Laws.halting_op, Local.gives}
 
 pub self_equal : (m : ℕ) → (m == m) ≡ true
 self_equal m = grind (arith, nat_tests)
@@ -44,6 +44,22 @@ first_alone None = refl
 pub ok_is : (reply : Reply) → is_ok reply ≡ true → reply ≡ Reply.Ok
 ok_is Reply.Ok h = refl
 ok_is _ h = absurd cc
+
+-- a reply that is neither Ok nor an error gives no verdict
+pub gives_nothing : (op : Op) (reply : Reply) → is_ok reply ≡ false → is_fault reply ≡ false → gives op reply ≡ []
+gives_nothing (Op.SetVerdict v) Reply.Ok o f = absurd cc
+gives_nothing op reply o f = no_error (is_fault reply) (is_stop_case op) (is_ok reply) f o
+  where
+    no_error : (fault stop ok : Bool) → fault ≡ false → ok ≡ false → (if fault || (stop && ok) then Verdict.Error ∷ [] else []) ≡ []
+    no_error fault stop ok f o = rw (f, o, and_no stop) refl
+
+-- nor does a reply that is no error to what sets none
+pub gives_if : (op : Op) (reply : Reply) → is_fault reply ≡ false → gives op Reply.Ok ≡ [] → gives op reply ≡ []
+gives_if op reply f none = by_test (is_ok reply) refl
+  where
+    by_test : (t : Bool) → is_ok reply ≡ t → gives op reply ≡ []
+    by_test true o = rw (ok_is reply o) none
+    by_test false o = gives_nothing op reply o f
 
 -- a component is none that is beyond it
 pub other_comp : (o : Option Comp) (c : ℕ) (n : ℕ) → ((d : Comp) → o ≡ Some d → d.0 < n) → n ≤ c → is_comp o c ≡ false

@@ -156,6 +156,6 @@ others_halt_nothing own e c h =
     by_reply (is_ended e.reply) (p.1) (no_stop_case e.op p.0) (no_finish e.op p.0) (no_stop e.op 0 p.0) (no_kill e.op 0 p.0) (no_stop e.op c p.0) (no_kill e.op c p.0)
   where
     by_reply : (ended : Bool) → is_fault e.reply ≡ false → is_stop_case e.op ≡ false → is_finish e.op ≡ false → is_stop_of e.op 0 ≡ false → is_kill_of e.op 0 ≡ false → is_stop_of e.op c ≡ false → is_kill_of e.op c ≡ false →
-        ((not ended && (is_fault e.reply || is_stop_case e.op || (is_finish e.op && (e.caller.0 == 0)) || is_stop_of e.op 0 || is_kill_of e.op 0)) || (not ended && ((is_finish e.op && is_comp own c) || is_stop_of e.op c || is_kill_of e.op c))) ≡ false
+        (((not ended && (is_fault e.reply || is_stop_case e.op || (is_finish e.op && (e.caller.0 == 0)) || is_stop_of e.op 0 || is_kill_of e.op 0)) || (not ended && is_kill_of e.op c)) || (not ended && ((is_finish e.op && is_comp own c) || is_stop_of e.op c))) ≡ false
     by_reply true f w n s k t l = refl
     by_reply false f w n s k t l = rw (f, w, n, s, k, t, l) refl

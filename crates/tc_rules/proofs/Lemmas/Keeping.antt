@@ -1,18 +1,10 @@
 -- What the table keeps is right after one more entry.
 use Rattle.std.{proofs.Common.{ℕ, ◌≡◌, ◌<◌, ◌≤◌, ◌==◌, ◌&&◌, ◌||◌, not, if◌then◌else◌, Bool, true, false, Option, Some, None, is_some, List, ◌∷◌, length, get_or, refl, ap, subst, sym, ◌∙◌, arith}, specs.List.list_all}
-use Rattle.tc_entry.specs.{declared.comp.Comp.Comp, declared.entry.Entry.Entry, Prelude.{is_ended, is_ok}}
-use Rattle.tc_rules.{specs.{Answers.answer, Faults.{all_exist, target_names}, History.{add_new, comp_of, comps, created, ends_case, exists, halts, is_comp, is_finish, is_in, is_kill_of, is_over, is_stop_of, kills}, Inside.Words.{is_alive_create, first_some, starts_run}, Inside.Counts.made_state, Inside.Kept.{IsKept, numbers_from}, Inside.Step.{next_run, next_state}, Phases.{last_run, start_in, was_halted, was_killed}, Standing.{Kept, StandsFor}, Waiting.{parks, waiting}, declared.awaited.Awaited.Awaited, declared.component_state.ComponentState.ComponentState, declared.run_state.RunState.RunState}, proofs.{Lemmas.Deciding.{equal_if, other_comp}, Lemmas.Fresh.fresh_step, Lemmas.Kept.{existing, exists_if, exists_unless}, Lemmas.Sound.{no_parks, parked, runs_on, starts, starts_fresh}, Lemmas.Steps.{run_step, state_step}}}
-
-halting_by : (ended ends fin stop kill : Bool) → (ends || (not ended && kill)) ≡ true → (ends || (not ended && (fin || stop || kill))) ≡ true
-halting_by ended true fin stop kill h = refl
-halting_by true false fin stop kill h = absurd cc
-halting_by false false true stop true h = refl
-halting_by false false false true true h = refl
-halting_by false false false false true h = refl
-halting_by false false fin stop false h = absurd cc
+use Rattle.tc_entry.specs.{declared.comp.Comp.Comp, declared.entry.Entry.Entry, Prelude.{is_ok}}
+use Rattle.tc_rules.{specs.{Answers.answer, Faults.{all_exist, target_names}, History.{add_new, comp_of, comps, created, ends_case, exists, halts, is_comp, is_in, is_over, kills}, Inside.Words.{is_alive_create, first_some, starts_run}, Inside.Counts.made_state, Inside.Kept.{IsKept, numbers_from}, Inside.Step.{next_run, next_state}, Phases.{last_run, start_in, was_halted, was_killed}, Standing.{Kept, StandsFor}, Waiting.{parks, waiting}, declared.awaited.Awaited.Awaited, declared.component_state.ComponentState.ComponentState, declared.run_state.RunState.RunState}, proofs.{Lemmas.Deciding.{equal_if, other_comp}, Lemmas.Fresh.fresh_step, Lemmas.Kept.{existing, exists_if, exists_unless}, Lemmas.Sound.{no_parks, parked, runs_on, starts, starts_fresh}, Lemmas.Steps.{run_step, state_step}}}
 
 pub kill_halts : (own : Option Comp) (e : Entry) (c : ℕ) → kills e c ≡ true → halts own e c ≡ true
-kill_halts own e c h = halting_by (is_ended e.reply) (ends_case e) (is_finish e.op && is_comp own c) (is_stop_of e.op c) (is_kill_of e.op c) h
+kill_halts own e c h = rw h refl
 
 pub halted_by : (ex k w s h was : Bool) → (k ≡ true → h ≡ true) → (w ≡ true → was ≡ true) → (s ≡ true → (k ≡ false) × (w ≡ false)) →
     ((ex && k) || w) ≡ true → (not s && (h || was)) ≡ true

@@ -2,7 +2,7 @@
 use Rattle.std.specs.List.{flat_map}
 use Rattle.std.proofs.{Common.{ℕ, ◌≡◌, if◌then◌else◌, Bool, true, false, Option, Some, None, is_some, List, [], ◌∷◌, ◌++◌, refl, ap, sym, ◌∙◌, append_assoc, arith}, lemmas.Bool.Decides.nat_tests}
 use Rattle.tc_entry.specs.{Prelude.{Verdict, worst, is_ended}, declared.comp.Comp.Comp, declared.entry.Entry.Entry, declared.op.Op.Op, declared.phase.Phase.Phase, declared.reply.Reply.Reply}
-use Rattle.tc_rules.{specs.{Answers.{answer, is_active, is_run_of, plain_answer}, Inside.Words.{answer_unless, is_active_on, RunsNow}, Faults.fault, History.{comp_of, exists, halts, is_comp, is_over, kills}, Legal.{IsAllOver, IsLegal}, Local.{gives, local, verdicts_of}, Phases.{phase, start_in, was_halted, was_killed}}, proofs.{Lemmas.Keeping.{halted_by, kill_halts}, Lemmas.Over.all_over, Lemmas.Sound.starts}}
+use Rattle.tc_rules.{specs.{Answers.{answer, is_active, is_run_of, plain_answer}, Inside.Words.{answer_unless, is_active_on, RunsNow}, Faults.fault, History.{comp_of, exists, halts, is_comp, is_over, kills}, Legal.{IsAllOver, IsLegal}, Local.{gives, local, verdicts_of}, Phases.{phase, start_in, was_halted, was_killed}}, proofs.{Lemmas.Deciding.{gives_nothing, if_same}, Lemmas.Keeping.{halted_by, kill_halts}, Lemmas.Over.all_over, Lemmas.Sound.starts}}
 
 pub over_for_all : (n : ℕ) (past : List Entry) → IsLegal n past → is_over past ≡ true → IsAllOver n past
 over_for_all = all_over
@@ -52,18 +52,11 @@ same_component_later n past later e legal h =
     stays_on later (e ∷ past) e.caller.0 r.0 (stays_on (e ∷ []) past e.caller.0 r.0 r.1.0) ∙ sym r.1.0
 
 ended_gives_none : (op : Op) (reply : Reply) → is_ended reply ≡ true → gives op reply ≡ []
-ended_gives_none op Reply.Ended h = refl
+ended_gives_none op Reply.Ended h = gives_nothing op Reply.Ended refl refl
 ended_gives_none op _ h = absurd cc
 
-none_given : (t u : Bool) (given vs ws : List Verdict) → given ≡ [] → vs ≡ ws → (if t then given else []) ++ vs ≡ (if u then given ++ ws else ws)
-none_given true true given vs ws g e = rw (g, e) refl
-none_given true false given vs ws g e = rw (g, e) refl
-none_given false true given vs ws g e = rw (g, e) refl
-none_given false false given vs ws g e = e
-
-given_if : (t : Bool) (given vs : List Verdict) → (if t then given else []) ++ vs ≡ (if t then given ++ vs else vs)
-given_if true given vs = refl
-given_if false given vs = refl
+none_given : (t u : Bool) (given vs ws : List Verdict) → given ≡ [] → vs ≡ ws → (if t then given else []) ++ vs ≡ (if u then given else []) ++ ws
+none_given t u given vs ws g e = rw (g, e) (ap (λ x. x ++ ws) (if_same t [] ∙ sym (if_same u [])))
 
 -- the verdicts given to component c by runs that are on it in the whole history
 abbrev verdicts_in : List Entry → List Entry → ℕ → List Verdict
@@ -78,7 +71,7 @@ same_verdicts n (e ∷ past) later c legal =
     by_reply true h same =
         none_given (is_comp (comp_of (later ++ e ∷ past) e.caller.0) c) (is_comp (comp_of past e.caller.0) c) (gives e.op e.reply) (verdicts_in (later ++ e ∷ past) past c) (verdicts_of past c)
         (ended_gives_none e.op e.reply h) same
-    by_reply false h same = rw (same_component_later n past later e legal h, same) (given_if (is_comp (comp_of past e.caller.0) c) (gives e.op e.reply) (verdicts_of past c))
+    by_reply false h same = rw (same_component_later n past later e legal h, same) refl
 
 pub local_of_whole : (n : ℕ) (past : List Entry) (c : ℕ) → IsLegal n past → worst (verdicts_in past past c) ≡ local past c
 unfolding local

@@ -1,7 +1,7 @@
 -- What one more entry does to the definitions.
 use Rattle.std.proofs.Common.{ℕ, ◌≡◌, ◌&&◌, ◌||◌, not, if◌then◌else◌, Bool, true, false, Option, Some, None, is_some, List, [], ◌∷◌, ◌++◌, refl}
 use Rattle.tc_entry.specs.{Prelude.{Verdict, Run, worst}, declared.entry.Entry.Entry, declared.phase.Phase.Phase}
-use Rattle.tc_rules.specs.{History.comp_of, History.exists, Inside.Words.first_some, History.halts, History.is_alive_type, History.is_comp, History.kills, Inside.Kept.run_of, Inside.Kept.state_of, Inside.Step.next_excused, Inside.Step.next_local, Inside.Step.next_phase, Inside.Step.next_run, Inside.Step.next_state, Local.gives, Local.local, Local.verdicts_of, Inside.Step.halts_from_outside, Phases.is_excused, Phases.last_run, Phases.phase, Inside.Words.phase_if_not_killed, Phases.start_in, Phases.was_halted, Phases.was_killed, declared.component_state.ComponentState.ComponentState}
+use Rattle.tc_rules.specs.{History.comp_of, History.exists, Inside.Words.first_some, History.halts, History.is_alive_type, History.is_comp, History.kills, Inside.Kept.run_of, Inside.Kept.state_of, Inside.Step.next_excused, Inside.Step.next_local, Inside.Step.next_phase, Inside.Step.next_run, Inside.Step.next_state, Local.gives, Local.local, Local.verdicts_of, Phases.halts_from_outside, Phases.is_excused, Phases.last_run, Phases.phase, Inside.Words.phase_if_not_killed, Phases.start_in, Phases.was_halted, Phases.was_killed, declared.component_state.ComponentState.ComponentState}
 
 abbrev pub phase_by : Bool → Option Run → Bool → Bool → Phase
 phase_by killed run halt alive_type = if killed then Phase.Killed else phase_if_not_killed run halt alive_type
@@ -33,10 +33,6 @@ pub worst-append : (vs ws : List Verdict) → worst (vs ++ ws) ≡ next_local vs
 worst-append [] ws = refl
 worst-append (v ∷ vs) ws = rw (worst-append vs ws)
 
-local_step : (on : Bool) (vs ws : List Verdict) → worst (if on then vs ++ ws else ws) ≡ next_local (if on then vs else []) (worst ws)
-local_step true vs ws = worst-append vs ws
-local_step false vs ws = refl
-
 abbrev state : Phase → Bool → Option Run → Bool → Verdict → ComponentState
 state p a s x l = record { phase = p; alive_type = a; last = s; excused = x; local = l }
 
@@ -51,7 +47,7 @@ unfolding phase local next_state
 state_step past e c ex halted_if_killed start_ok =
     let ph = phase_step (kills e c) (start_in e c) (halts (comp_of past e.caller.0) e c) (was_killed past c) (last_run past c) (was_halted past c) (is_alive_type past c) start_ok in
     let ex' = excused_step (start_in e c) (halts_from_outside (comp_of past e.caller.0) e c) (was_killed past c) (last_run past c) (was_halted past c) (is_alive_type past c) (is_excused past c) halted_if_killed in
-    let lo = local_step (is_comp (comp_of past e.caller.0) c) (gives e.op e.reply) (verdicts_of past c) in
+    let lo = worst-append (if is_comp (comp_of past e.caller.0) c then gives e.op e.reply else []) (verdicts_of past c) in
     rw ex (state_ext ph refl refl ex' lo)
 
 pub run_step : (past : List Entry) (e : Entry) (b : ℕ) → run_of (e ∷ past) b ≡ next_run e b (run_of past b)

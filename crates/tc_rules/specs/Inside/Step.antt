@@ -1,7 +1,7 @@
 -- What one more entry does to what the table keeps.
-use Rattle.std.specs.Prelude.{ℕ, ◌≡◌, ◌<◌, length, slice_index_or, ◌==◌, ◌&&◌, ◌||◌, not, if◌then◌else◌, Bool, true, false, Option, Some, None, List, [], ◌∷◌, drop}
+use Rattle.std.specs.Prelude.{ℕ, ◌≡◌, ◌<◌, length, slice_index_or, ◌==◌, not, if◌then◌else◌, Bool, true, false, Option, Some, None, List, [], ◌∷◌, drop}
 use Rattle.tc_entry.specs.{Prelude.{Verdict, Run, worse, is_ended}, declared.comp.Comp.Comp, declared.entry.Entry.Entry, declared.op.Group.Group, declared.op.Op.Op, declared.phase.Phase.Phase}
-use Rattle.tc_rules.specs.{History.ends_case, Inside.Words.first_some, History.halts, History.is_comp, History.is_kill_of, History.is_stop_of, History.kills, History.started_on, Inside.States.all_killed, Inside.States.none_running, Local.gives, Phases.start_in, Status.is_killed, Status.is_running, Waiting.parks, declared.component_state.ComponentState.ComponentState, declared.run_state.RunState.RunState, declared.step.Scope.Scope}
+use Rattle.tc_rules.specs.{History.ends_case, Inside.Words.first_some, History.halts, History.is_comp, History.kills, History.started_on, Inside.States.all_killed, Inside.States.none_running, Local.gives, Phases.halts_from_outside, Phases.start_in, Status.is_killed, Status.is_running, Waiting.parks, declared.component_state.ComponentState.ComponentState, declared.run_state.RunState.RunState, declared.step.Scope.Scope}
 
 -- a phase once its component is halted
 abbrev pub halted : Bool → Phase → Phase
@@ -16,10 +16,6 @@ next_if_not_killed None halt alive_type phase = if halt then halted alive_type p
 -- the phase after an entry, by whether it kills the component too
 abbrev pub next_phase : Bool → Option Run → Bool → Bool → Phase → Phase
 next_phase kill start halt alive_type phase = if kill then Phase.Killed else next_if_not_killed start halt alive_type phase
-
--- the entry halts component c, as a Stop or Kill by a run on another component
-abbrev pub halts_from_outside : Option Comp → Entry → ℕ → Bool
-halts_from_outside own e c = halts own e c && (is_stop_of e.op c || is_kill_of e.op c) && not (is_comp own c)
 
 -- whether the component is excused after an entry
 abbrev pub next_excused : Option Run → Bool → Phase → Bool → Bool

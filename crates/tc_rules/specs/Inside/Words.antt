@@ -1,7 +1,7 @@
 -- Parts of the public definitions that proofs speak of by a name.
-use Rattle.std.specs.{Prelude.{ℕ, ◌≡◌, ◌==◌, ◌&&◌, not, if◌then◌else◌, Bool, false, Option, Some, None, List, [], ◌∷◌, filter, length, sum_by}, Option.{option_and_then, option_map, option_map_or, option_or}}
-use Rattle.tc_entry.specs.{Prelude.{Run, is_ok}, declared.comp.Comp.Comp, declared.entry.Entry.Entry, declared.op.Op.Op, declared.phase.Phase.Phase, declared.reply.Fault.Fault, declared.reply.Reply.Reply}
-use Rattle.tc_rules.specs.{Answers.is_run_of, Faults.target_names, Faults.target_of, History.comp_of, History.created, History.creation, History.is_comp, History.start, Local.local, Merge.is_by, Merge.part, Phases.phase, Waiting.holds, Waiting.is_stuck, declared.awaited.Awaited.Awaited, declared.run_log.RunLog.RunLog}
+use Rattle.std.specs.{Prelude.{ℕ, ◌≡◌, ◌==◌, ◌&&◌, not, if◌then◌else◌, Bool, false, Option, Some, None, is_some, List, [], ◌∷◌, filter, length, sum_by}, Option.{option_and_then, option_map, option_map_or, option_or}}
+use Rattle.tc_entry.specs.{Prelude.{Run}, declared.comp.Comp.Comp, declared.entry.Entry.Entry, declared.op.Op.Op, declared.phase.Phase.Phase, declared.reply.Fault.Fault, declared.reply.Reply.Reply}
+use Rattle.tc_rules.specs.{Answers.is_run_of, Faults.names, Faults.target_of, History.comp_of, History.creation, History.start, Local.local, Merge.is_by, Merge.part, Phases.phase, Waiting.holds, declared.awaited.Awaited.Awaited, declared.run_log.RunLog.RunLog}
 
 -- the first of two that is there
 abbrev pub first_some : {A : Type 0} → Option A → Option A → Option A
@@ -24,11 +24,6 @@ local_reply past comp = option_map_or (λ c. Reply.Local (local past c.0)) comp 
 abbrev pub answer_unless : Option Fault → Reply → Reply
 answer_unless fault reply = option_map_or (λ f. Reply.Fault f) fault reply
 
--- the reply to a Wake by run b
-abbrev pub wake_reply : List Entry → ℕ → Awaited → Reply
-wake_reply past b a =
-    if holds past a then Reply.Matched else if (b == 0) && is_stuck past then Reply.Fault Fault.Stuck else Reply.Parked
-
 -- it waits, and what it waits for has not come
 abbrev pub waits_in_vain : List Entry → Option Awaited → Bool
 waits_in_vain past waited = option_map_or (λ a. not (holds past a)) waited false
@@ -49,18 +44,6 @@ started_run op = option_map (λ s. s.0) (start op)
 abbrev pub is_alive_create : Op → Bool
 is_alive_create op = option_map_or (λ m. m.0) (creation op) false
 
--- the name that an operation gives
-abbrev pub name_in : Op → Option (List ℕ)
-name_in op = option_and_then (λ m. m.1) (creation op)
-
--- the run that an entry starts, a Start replied Ok
-abbrev pub started : Entry → Option Run
-started e = if is_ok e.reply then option_map (λ s. s.0) (start e.op) else None
-
--- the name that this entry gives to component c
-abbrev pub name_given : Entry → ℕ → Option (List ℕ)
-name_given e c = if is_comp (created e.op e.reply) c then name_in e.op else None
-
 -- the caller's component, and that it was running this very run
 abbrev pub RunsNow : List Entry → Entry → Comp → Type 0
 RunsNow past e c = (comp_of past e.caller.0 ≡ Some c) × (phase past c.0 ≡ Phase.Running (record { 0 = e.caller.0 }))
@@ -79,4 +62,4 @@ calls_of b past = length (filter (is_by b) past)
 
 -- the call is about Any or All
 abbrev pub asks_many : Op → Bool
-asks_many op = option_map_or (λ t. length (target_names t) == 0) (target_of op) false
+asks_many op = is_some (target_of op) && (length (names op) == 0)

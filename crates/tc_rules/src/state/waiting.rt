@@ -1,5 +1,5 @@
 //! Which runs continue, which wait, and whether the case is stuck.
-ghost use Rattle.std.specs.Prelude.{◌≡◌, ◌<◌, true, false, Some, IfSome, MatchOption, List, length};
+ghost use Rattle.std.specs.Prelude.{◌≡◌, ◌<◌, true, Some, IfSome, List, length, is_some};
 ghost use Rattle.tc_entry.specs.declared.entry.Entry.{Entry};
 ghost use Rattle.tc_rules.specs.{Standing.StandsFor, Inside.Words.waits_in_vain};
 ghost use Rattle.tc_rules.specs.History as history;
@@ -19,7 +19,7 @@ impl CaseState {
     /// The component of a run that is active.
     #[inline(always)]
     pub fn active_on(&self, caller: Run) -> Option<Comp>
-        ensures active { (past : List Entry) → StandsFor self.now past → MatchOption result (answers.is_active past caller.0 ≡ false) (λ _. answers.is_active past caller.0 ≡ true) }
+        ensures active { (past : List Entry) → StandsFor self.now past → is_some result ≡ answers.is_active past caller.0 }
         ensures on { (past : List Entry) → StandsFor self.now past → IfSome result (λ c. history.comp_of past caller.0 ≡ Some c) }
         ensures within { IfSome result (λ c. c.0 < length self.now.states) }
     {

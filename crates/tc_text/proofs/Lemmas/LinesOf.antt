@@ -1,7 +1,8 @@
 -- Lines, and what follows them.
-use Rattle.std.{proofs.{Common.{◌≡◌, ◌≢◌, ◌∙◌, ◌==◌, inl, inr, ℕ, List, [], ◌∷◌, ◌++◌, Bool, true, false, if◌then◌else◌, length, ◌<◌, sym, ap, refl, arith, ◌^◌, codes, Some, None, rules, ◌+◌, ◌≤◌, IsTrue, All, take, get_or}, lemmas.Bool.Decides.nat_tests, lemmas.List.Elements.{All-head, All-tail}, lemmas.List.{length-append, take_more}}, specs.{List.{onto_first, AllByRecursion}, Fmt.decimal, Char.is_ascii_digit, Str.all_ascii_digits}}
-use Rattle.tc_text.{specs.{MoveList.{lines_of, IsMove, Move}, Reading.{EndsLine, EndsMove, EndsNumber}, Spelling.{IsOp, move_text, IsGroup, IsTarget, args_text, group_text, op_text, target_text}, Inside.{AreComps, IsMoveTakenBy, NoLow, behaviours_line, move_line}}, proofs.{Operands.{IsThatNumber, ends_nothing}, Lemmas.Digits.{both, digit_first, spelled_digits}}}
+use Rattle.std.{proofs.{Common.{◌≡◌, ◌≢◌, ◌∙◌, ◌==◌, inl, inr, ℕ, List, [], ◌∷◌, ◌++◌, Bool, true, false, if◌then◌else◌, length, ◌<◌, sym, ap, refl, arith, ◌^◌, codes, Some, rules, ◌+◌, ◌≤◌, IsTrue, All, take, get_or}, lemmas.Bool.Decides.nat_tests, lemmas.List.Elements.{All-head, All-tail}, lemmas.List.{length-append, take_more}}, specs.{List.{onto_first, AllByRecursion}, Fmt.decimal, Char.is_ascii_digit, Str.all_ascii_digits}}
+use Rattle.tc_text.{specs.{MoveList.{lines_of, Move}, Reading.{EndsLine, EndsMove, EndsNumber}, Spelling.{IsOp, move_text, IsGroup, IsTarget, group_text, op_text, target_text}, Inside.{AreComps, IsMove, IsMoveTakenBy, NoLow, args_text, behaviours_line, move_line}}, proofs.{Operands.{IsThatNumber, ends_nothing}, Lemmas.Digits.{both, digit_first, spelled_digits}}}
 use Rattle.tc_entry.specs.{Prelude.{Run, IsBehaviours, name_of, given, UserVerdict, IsName, is_name_byte}, declared.op.Op.Op, declared.comp.Comp.Comp, declared.op.Group.Group, declared.op.Target.Target}
+use Rattle.tc_entry.proofs.Lemmas.Names.{name_parts}
 
 -- no byte is LF
 abbrev pub NoLf : List ℕ → Type 0
@@ -115,7 +116,7 @@ none_low [] all = tt
 none_low (b ∷ bs) all = (not_low b (All-head (λ x. IsTrue (is_name_byte x)) b bs all), none_low bs (All-tail (λ x. IsTrue (is_name_byte x)) b bs all))
 
 pub name_not_low : (name : List ℕ) → IsName name → NoLow name
-name_not_low name is = none_low name is.allowed
+name_not_low name is = none_low name (name_parts name is).allowed
 
 no_feed : (b : ℕ) → 48 ≤ b → (b == 10) ≡ false
 no_feed b high = grind (arith, nat_tests)

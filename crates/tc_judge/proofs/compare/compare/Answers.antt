@@ -1,5 +1,5 @@
-use Rattle.std.{proofs.{Common.{rules, ◌≡◌, ◌∙◌, ◌<◌, ◌≤◌, ◌++◌, [], length, get_or, reverse, take, ap, sym, subst, arith}, lemmas.{List.take_all, Slice.Zip.AllZip-long}}, specs.List.flat_map}
-use Rattle.tc_judge.{specs.{Compared.{AreJudged, missing, note}, Inside.{IsJudgedBlock, IsWholeOfBlock, StandsBeside}, declared.compare.Wrong.Wrong}, proofs.Beside.{compared_more, missing_is}}
+use Rattle.std.{proofs.{Common.{rules, ◌≡◌, ◌∙◌, ◌<◌, ◌≤◌, ◌++◌, [], length, drop, get_or, reverse, take, ap, refl, sym, subst, arith}, lemmas.{List.{drop_all, take_all}, Slice.Zip.AllZip-long}}, specs.List.flat_map}
+use Rattle.tc_judge.{specs.{Compared.{IsCompared, missing, note}, Inside.{IsJudgedBlock, IsWholeOfBlock, StandsBeside}, declared.compare.Wrong.Wrong}, proofs.Beside.{compared_more, missing_is}}
 use Rattle.tc_judge.proofs.compare.compare.Goals as goal
 
 pub loop-block-preserved : goal.loop-block-preserved
@@ -16,7 +16,7 @@ loop-block-preserved c =
 pub loop-block-init : goal.loop-block-init
 loop-block-init c = (
   c.in_ok-comparing.ensures.whole,
-  λ cases blocks each judged. (c.in_ok-comparing.ensures.beside cases each, subst (AreJudged cases []) (sym c.new-notes.ensures.items) AreJudged.none),
+  λ cases blocks each judged. (c.in_ok-comparing.ensures.beside cases each, λ rest is. subst (λ l. IsCompared cases [] blocks (l ++ rest)) (sym c.new-notes.ensures.items) is),
 )
 
 pub returns : goal.returns
@@ -26,12 +26,11 @@ returns c cases all each judged =
     let long : length c.args.blocks.now ≡ length all = AllZip-long (IsJudgedBlock IsWholeOfBlock) all c.args.blocks.now judged in
     let to_end : length c.args.blocks.now ≤ i = search rules in
     let whole : take i all ≡ all = take_all i all (omega (arith, long, to_end)) in
+    let none : drop i all ≡ [] = drop_all i all (omega (arith, long, to_end)) in
     let names = c.in_ok-missing.ensures ∙ missing_is c.loop-block.comparing cases (reverse all) (subst (λ l. StandsBeside cases (reverse l) c.loop-block.comparing) whole so.0) in
-    let lent : c.as_slice.result.now ≡ missing (reverse all) cases = c.as_slice.ensures.value ∙ names in (
-      record {
-        notes = c.loop-block.notes.items;
-        judged = subst (λ l. AreJudged cases (reverse l) c.loop-block.notes.items) whole so.1;
-        out_is = c.in_ok-append_missing.ensures ∙ ap (λ l. c.loop-block.notes.items ++ flat_map (λ n. note n Wrong.Missing) l) lent;
-      },
+    let lent : c.as_slice.result.now ≡ missing (reverse all) cases = c.as_slice.ensures.value ∙ names in
+    let rest = flat_map (λ n. note n Wrong.Missing) (missing (reverse all) cases) in
+    let at_end = subst (λ l. IsCompared cases (reverse (take i all)) l rest) (sym none) (subst (λ l. rest ≡ flat_map (λ n. note n Wrong.Missing) (missing (reverse l) cases)) (sym whole) refl) in (
+      subst (IsCompared cases [] all) (sym (c.in_ok-append_missing.ensures ∙ ap (λ l. c.loop-block.notes.items ++ flat_map (λ n. note n Wrong.Missing) l) lent)) (so.1 rest at_end),
       names,
     )

@@ -1,11 +1,11 @@
 use Rattle.std.proofs.Common.{◌≡◌, ◌∙◌, ◌&&◌, refl, subst, sym, true}
 use Rattle.tc_command.specs.declared.task.Task.{Task}
 use Rattle.tc_judge.specs.Prelude.{IsMadeOfInput, history_limit, is_of_judged}
-use Rattle.tc_program.{specs.{Explained.asks_why, Limits.{is_whole, limit_of}, Made.IsMade}, proofs.Doing.{and_right, and_true}}
+use Rattle.tc_program.{specs.Made.IsMade, proofs.Doing.{and_true, kept_whole}}
 use Rattle.tc_program.proofs.carrying_out.made_in_parts.Goals as goal
 
 pub returns-then-explains : goal.returns-then-explains
-returns-then-explains g c = (refl, and_right (asks_why c.args.task.now) (is_whole (limit_of c.args.task.now)) (sym c.explains.ensures ∙ c.if-explains.true))
+returns-then-explains g c = (refl, kept_whole c.args.task.now (sym c.explains.ensures ∙ c.if-explains.true))
 
 pub returns-in-Check : goal.returns-in-Check
 returns-in-Check g c = rw c.in-Check.is (c.check_input.ensures, rw c.in-Check.is at (sym c.explains.ensures ∙ c.if-explains.false), λ e. cc)

@@ -3,7 +3,7 @@ use Rattle.tc_step.specs.Prelude.{ScriptView}
 use Rattle.tc_explore.specs.Prelude.{IsAtLimit, most_states, AreAllMet, AreReached}
 use Rattle.tc_course.specs.{Prelude.{AllFound, AreLegal, AreWitnesses}, declared.found.{Ending.Ending, Limit.Limit}}
 use Rattle.tc_answer.specs.Prelude.{scripts_of}
-use Rattle.tc_program.specs.Explore.{TellsAfter}
+use Rattle.tc_program.specs.Inside.{TellsAfter}
 use Rattle.tc_program.proofs.explore.explore_case.Goals as goal
 
 pub returns : goal.returns

@@ -1,10 +1,10 @@
 use Rattle.std.proofs.Common.{rules, arith, refl}
-use Rattle.tc_reader.specs.FirstPass.{opened, cases_in, behaviours_in, steps_in}
+use Rattle.tc_reader.specs.FirstPass.{opened, steps_in}
 use Rattle.tc_reader.proofs.WalkedText.{may_take, read_more, read_fails, read_first, read_cut, read_misnamed, read_whole, read_lawful}
 use Rattle.tc_reader.proofs.reading.walk_lines.Goals as goal
 
 pub loop-bytes-init : goal.loop-bytes-init
-unfolding opened cases_in behaviours_in steps_in
+unfolding opened steps_in
 loop-bytes-init c = read_first c.args.text.now _ _ c.new-rest.result (omega arith) (search rules) refl (search rules)
 
 pub take_line-requires : goal.take_line-requires

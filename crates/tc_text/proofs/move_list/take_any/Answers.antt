@@ -1,4 +1,4 @@
-use Rattle.std.proofs.Common.{◌≡◌, ap}
+use Rattle.std.proofs.Common.{ap}
 use Rattle.tc_text.proofs.Lemmas.LinesOf.{IsThatSpelled, line_taken, never_move, that_line}
 use Rattle.tc_text.proofs.move_list.take_any.Goals as goal
 

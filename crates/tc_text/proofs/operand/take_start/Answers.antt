@@ -1,5 +1,5 @@
 use Rattle.std.proofs.Common.{◌∙◌, ◌++◌, ap, arith}
-use Rattle.tc_text.{specs.Spelling.args_text, proofs.Operands.{behind_comp, ends_args, same_start}}
+use Rattle.tc_text.{specs.Inside.args_text, proofs.Operands.{behind_comp, ends_args, same_start}}
 use Rattle.tc_text.proofs.operand.take_start.Goals as goal
 
 pub returns-in_err-run-clause-only : goal.returns-in_err-run-clause-only

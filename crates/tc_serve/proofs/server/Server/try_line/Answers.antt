@@ -7,7 +7,7 @@ pub returns-in-Some-clause-ok : goal.returns-in-Some-clause-ok
 returns-in-Some-clause-ok c =
     IfOk-weaker c.make.result _ _
     (λ why tries. subst (λ (t : Bool). TriesLine t c.args.line.now why c.args.self.now c.make.new.self c.args.out.now.items c.make.new.out.items) (sym c.if-not-ended.false)
-    (asked_by c.args.line.now (Order.Move c.in-Some.caller (op_of c.in-Some.op)) why c.args.self.now c.make.new.self c.args.out.now.items c.make.new.out.items c.in-Some.ensures.fits c.in-Some.ensures.spelled tries))
+    (asked_by c.args.line.now (Order.Move c.in-Some.caller (op_of c.in-Some.op)) why c.args.self.now c.make.new.self c.args.out.now.items c.make.new.out.items (c.in-Some.ensures.fits.0, c.in-Some.ensures.fits.1, c.in-Some.ensures.spelled) tries))
     (rw c.op.ensures at c.make.ensures.ok)
 
 pub returns-clause-ok : goal.returns-clause-ok

@@ -1,0 +1,2 @@
+-- The lemmas that other crates cite.
+pub mod Names
