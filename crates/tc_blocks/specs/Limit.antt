@@ -2,8 +2,8 @@
 use Rattle.std.specs.{Prelude.{ℕ, ◌≡◌, ◌≤◌, ◌<◌, ◌+◌, ◌==◌, ◌&&◌, ◌⊎◌, Bool, true, false, if◌then◌else◌, List, [], ◌∷◌, ◌++◌, Option, IfSome, codes, length, nat_eq, nat_lt, ◌^◌, ◌-◌}, List.starts_with}
 use Rattle.tc_blocks.specs.declared.limit.Limit.{Limit}
 
--- After n bytes of a block, of which these are the last line so far, the others may come if no block has more than the
--- most. A block ends with a line that begins with `end `, or with the text.
+-- After n bytes of a block, whose last line so far is given, these bytes may come: no block then has more than the most.
+-- A block ends with a line that begins with `end `, or with the text.
 abbrev pub may_come : ℕ → ℕ → List ℕ → List ℕ → Bool
 may_come most n line [] = true
 may_come most n line (b ∷ bs) =

@@ -161,7 +161,7 @@ impl Extent {
         ensures end { IfOk result (λ n. IfNone n (IsAtEnd (R.remaining reader.new))) }
         ensures long { IsErrOf result InputFault.TooLong → (input : Option (List ℕ)) (text : List ℕ)
             → IsConsumed input (R.remaining reader.old) text self.old
-            → IfSome input (λ text. IsInLimit self.old.limit text → ⊥) }
+            → IfSome input (λ whole. IsInLimit self.old.limit whole → ⊥) }
     {
         let Some(count) = read_part(reader, room, self.left)? else {
             return Ok(None);

@@ -99,7 +99,7 @@ fn skip<R: Read>(reader: &mut R, room: &mut [u8], extent: &mut Extent) -> Result
     ensures limit { extent.new.limit ≡ extent.old.limit }
     ensures long { IsErrOf result InputFault.TooLong → (input : Option (List ℕ)) (text : List ℕ)
         → IsConsumed input (R.remaining reader.old) text extent.old
-        → IfSome input (λ text. IsInLimit extent.old.limit text → ⊥) }
+        → IfSome input (λ whole. IsInLimit extent.old.limit whole → ⊥) }
 {
     while let Some(_count) = extent.read(reader, room)? {}
     Ok(())

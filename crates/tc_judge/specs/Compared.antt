@@ -44,7 +44,7 @@ note name wrong = wrong_text wrong ++ (name ++ (10 ∷ []))
 abbrev pub missing : List Block → CampaignView → List Word
 missing blocks cases = filter (λ n. not (has_block_named blocks n)) (map (λ c. c.0) cases)
 
--- what is said of blocks, one after the other, that come after these, the newest first, and then of the test cases that none is of
+-- what is said of the blocks that come after those before, the newest first, and then of the test cases that have no block
 abbrev pub IsCompared : CampaignView → List Block → List Block → List ℕ → Type 0
 IsCompared cases before [] out = out ≡ flat_map (λ n. note n Wrong.Missing) (missing before cases)
 IsCompared cases before (b ∷ blocks) out = (wrong : Option Wrong) × (rest : List ℕ) × IsJudged cases before b wrong

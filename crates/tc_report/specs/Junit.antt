@@ -35,7 +35,7 @@ cause_element s c =
     let decision = flat_map escaped_byte (decided_text s.names c) in
     decision ++ (codes "\">\n" ++ (decision ++ (codes "\n" ++ (s.waits ++ flat_map (named_entry (codes "  ") s.names) c.log))))
 
--- what is said of this end of a test case: of a verdict worse than pass what decided it, and if nothing did its name; nothing of pass
+-- what is said of this end of a test case: of a verdict worse than pass what decided it, or its name if nothing did; of none `skipped`; of pass nothing
 unfoldable pub end_element : Summary → CaseEnd → List ℕ
 end_element s (CaseEnd.Over Verdict.None) = codes "<skipped/>\n"
 end_element s (CaseEnd.Over Verdict.Pass) = []

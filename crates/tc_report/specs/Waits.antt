@@ -1,5 +1,5 @@
--- Which runs wait as no run can continue, and for whom. The calls of a history are played again: so it is of any history, and
--- one with a reply that is not the table's has the lines that the table's replies give.
+-- Which runs wait as no run can continue, and for whom. Only the calls of a history count, and its replies do not: each call is
+-- replied to once more by the table.
 use Rattle.std.specs.{Prelude.{ℕ, ◌&&◌, nat_le, if◌then◌else◌, Bool, true, false, Option, Some, None, List, [], ◌∷◌, ◌++◌, codes, drop, reverse}, List.{flat_map, list_any, range_with_len}, Option.option_map_or}
 use Rattle.tc_entry.specs.declared.limits.TheConstants.{BEHAVIOURS}
 use Rattle.tc_rules.specs.{Prelude.{Comp, Entry, Phase, Reply, Target, comp_of, entry_made, is_active, phase_if_any, waiting, Fault}, declared.awaited.Awaited.Awaited}
@@ -10,7 +10,7 @@ abbrev pub says_stuck : Reply → Bool
 says_stuck (Reply.Fault Fault.Stuck) = true
 says_stuck _ = false
 
--- these calls with the replies of the table of n behaviours, up to the first that it replies to so: of a legal history its own
+-- these calls, with the replies of the table of n behaviours, up to the first reply that no run can continue
 abbrev pub played : ℕ → List Entry → List Entry
 played n [] = []
 played n (e ∷ past) =
@@ -41,7 +41,7 @@ abbrev pub waits_after : Names → ℕ → List Entry → List ℕ
 waits_after names n past =
     flat_map (λ b. if is_active past b then wait_line names past b (comp_of past b) (waiting past b) else []) (range_with_len 0 n)
 
--- the lines of a history of 1 to 256 behaviours; none unless it comes to that
+-- the lines of a history of 1 to 256 behaviours; none unless the table replies that no run can continue
 unfoldable pub waits_text : Names → ℕ → List Entry → List ℕ
 waits_text names n history =
     let past = played n (reverse history) in

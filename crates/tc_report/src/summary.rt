@@ -26,7 +26,7 @@ pub struct Summary {
     pub ending: CaseEnd,
     /// What decided its verdict, if it is over and its verdict is worse than pass.
     pub cause: Option<Cause>,
-    /// The lines of who waits for whom, if its verdict is error since no run can continue.
+    /// The lines of who waits for whom, if its verdict was decided since no run can continue.
     pub waits: Sequence<u8>,
 }
 

@@ -31,7 +31,7 @@ start _ = None
 abbrev pub started_on : Entry → ℕ → Option Comp
 started_on e b = if is_ok e.reply then option_and_then (λ s. if s.0.0 == b then Some s.1 else None) (start e.op) else None
 
--- the run that the entry starts
+-- the run that the entry starts: of a Start that was carried out
 abbrev pub started : Entry → Option Run
 started e = if is_ok e.reply then option_map (λ s. s.0) (start e.op) else None
 

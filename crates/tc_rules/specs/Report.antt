@@ -22,7 +22,7 @@ pub record IsOneHistory (c : Closed) : Type 0 where
   pub over : is_over (reverse c.history) ≡ true
   -- from the first such entry on every component is killed, and every call is replied Ended
   pub none_alive : (later earlier : List Entry) → reverse c.history ≡ later ++ earlier → is_over earlier ≡ true → IsAllOver c.behaviours earlier
-  -- the local verdict of each component, which are numbered from 0 on
+  -- the local verdict of each component, in the order of their numbers
   pub locals : c.locals ≡ map (local (reverse c.history)) (range_with_len 0 (components (reverse c.history)))
   -- the overall verdict, which is the worst of them
   pub verdict : c.verdict ≡ overall (reverse c.history)

@@ -21,8 +21,8 @@ why_text Refusal.LateName = codes "late name"
 why_text Refusal.Wake = codes "a wake comes of itself"
 why_text Refusal.Waiting = codes "the run waits"
 
--- the line, without its LF, is the one spelling of what it asks for: names, sentences and operations are such, and numbers are those of
--- their types. The one that opens a test case has its name, and how many behaviours it has
+-- the line, without its LF, is the one spelling of what it asks for: names, sentences and operations are well formed, and numbers fit their
+-- types. The one that opens a test case has its name, and how many behaviours it has
 abbrev pub SpellsOrder : List ℕ → Order → Type 0
 SpellsOrder line (Order.Case name n) = IsName name × IsBehaviours n × (line ≡ codes "case " ++ (name ++ (codes " " ++ decimal n)))
 SpellsOrder line (Order.Named run name) = (run.0 < 2 ^ 16) × IsName name × (line ≡ naming_text run.0 name)
