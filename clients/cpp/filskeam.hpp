@@ -13,7 +13,7 @@
 #pragma once
 
 // That of the program which it was tested with.
-#define FILSKEAM_VERSION "0.20.0"
+#define FILSKEAM_VERSION "1.0.0"
 
 #include <fcntl.h>
 #include <poll.h>

@@ -237,7 +237,7 @@ def unseen() -> Iterator[str]:
 
 
 PARTS = ["Decision", "Reason", "Consequence"]
-KINDS = ("Added", "Changed", "Fixed", "Removed")
+KINDS = ("Do", "Added", "Changed", "Fixed", "Removed")
 # The heading above the versions, of what no version has yet.
 UNRELEASED = "Unreleased"
 FEWEST_DECISIONS, FEWEST_VERSIONS, FEWEST_WITH_READERS = 35, 2, 12

@@ -24,4 +24,4 @@ from .evidence import VERDICTS, Raised, Result
 from .words import Behaviour
 
 __all__ = ["Behaviour", "Case", "DynamicError", "Ended", "NoProgram", "Raised", "Refused", "Result", "Run", "Server", "ServerEnded", "VERDICTS"]
-__version__ = "0.20.0"
+__version__ = "1.0.0"

@@ -9,7 +9,7 @@ use clap::{Arg, ArgAction, Command};
 use std::alloc::{AllocError, Global};
 
 /// The version of the program.
-pub const VERSION: &str = "0.20.0";
+pub const VERSION: &str = "1.0.0";
 
 // What the help of the program says at its end.
 const PROGRAM_HELP: &str = "\

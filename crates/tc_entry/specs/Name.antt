@@ -25,7 +25,7 @@ pub record IsWild (bs : List ℕ) : Type 0 where
 abbrev pub IsPattern : List ℕ → Type 0
 IsPattern bs = IsName bs ⊎ IsWild bs
 
--- the pattern matches the name: a `*` stands for any bytes, or for none; another byte for itself
+-- the pattern matches the name: a `*` matches any bytes, or none; another byte itself
 abbrev pub matches : List ℕ → List ℕ → Bool
 matches [] name = length name == 0
 matches (byte ∷ bytes) [] = (byte == 42) && matches bytes []

@@ -1,4 +1,4 @@
--- Names, and where one stands in a list of them.
+-- Names, and the place of one in a list of them.
 use Rattle.std.specs.{Prelude.{ℕ, Bool, ◌||◌, false, if◌then◌else◌, List, [], ◌∷◌, ◌++◌}, List.{list_any, position_or_len}}
 use Rattle.tc_reader.specs.Words.{is_text}
 

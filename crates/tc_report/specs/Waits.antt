@@ -1,5 +1,5 @@
--- Which runs wait as no run can continue, and for whom. Only the calls of a history count, and its replies do not: each call is
--- replied to once more by the table.
+-- Which runs wait as no run can continue, and for whom. Only the calls of a history count, and its replies do not: the table
+-- replies to each again.
 use Rattle.std.specs.{Prelude.{ℕ, ◌&&◌, nat_le, if◌then◌else◌, Bool, true, false, Option, Some, None, List, [], ◌∷◌, ◌++◌, codes, drop, reverse}, List.{flat_map, list_any, range_with_len}, Option.option_map_or}
 use Rattle.tc_entry.specs.declared.limits.TheConstants.{BEHAVIOURS}
 use Rattle.tc_rules.specs.{Prelude.{Comp, Entry, Phase, Reply, Target, comp_of, entry_made, is_active, phase_if_any, waiting, Fault}, declared.awaited.Awaited.Awaited}
