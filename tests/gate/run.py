@@ -261,6 +261,7 @@ class Gate(Room):
         found = [re.fullmatch(r"gate: (.*) took (\d+) seconds, and (\d+\.\d\d) processor minutes", it) for it in lines]
         told = {it[1]: (int(it[2]), float(it[3])) for it in found if it}
         hold(len(told) == len(PARTS) + 1 and list(told)[-1] == "the whole", told)
+        hold(all(it[0] in lines[lines.index("== gate"):] for it in found if it), "the end does not say again what each part took")
         cost = {name: told[next(it for it in told if name in it)] for name in ("rt ci", "wrapper", "the whole", "hostile")}
         hold(0.02 <= cost["rt ci"][1] <= 0.06 and 0.02 <= cost["wrapper"][1] <= 0.06 and cost["hostile"][1] <= 0.01, told)
         hold(cost["wrapper"][0] >= 2 and cost["the whole"][0] >= 4, told)
