@@ -77,8 +77,8 @@ def edges() -> List[str]:
 
 
 # Two entries that are folded, the second of which ends a component.
-FOLDED = "".join(f"{it}\n" for it in ("history 2 t 2", "0 create -> made 1", "0 start 1 1 -> ok", *("0 getverdict -> none", "0 kill 1 -> ok") * 3,
-                                      "0 finish -> ok", "end none"))
+FOLDED = "".join(f"{it}\n" for it in ("history 2 t 2", "0 create -> made 1", "0 start 1 1 -> ok", "1 getverdict -> none",
+                                      *("0 getverdict -> none", "0 kill 1 -> ok") * 3, "1 getverdict -> ended", "0 finish -> ok", "end none"))
 
 
 def legal_blocks(context: Context) -> List[str]:
